@@ -1,0 +1,62 @@
+// Shows the codec at work: one line for each case, what was asked and what was answered.
+use config::configuration::Built;
+use config::configuration::TConfiguration;
+use config::limit::Limit;
+use number::I32Read;
+use wire::cursor::Cursor;
+use wire::refusal::Refusal;
+
+fn print(text: &[u8]) {
+    io::write_all(1, text);
+}
+
+fn print_refusal(refusal: Refusal) {
+    let kind = refusal.kind;
+    print(b"refused ");
+    io::print_decimal(1, kind.number() as u64);
+    print(b" at ");
+    io::print_decimal(1, refusal.place as u64);
+    print(b"\n");
+}
+
+fn print_i32(v: i32) {
+    let bits = number::sign::bits32(v);
+    if bits < 0x8000_0000 {
+        io::print_decimal(1, bits as u64);
+    } else {
+        print(b"-");
+        io::print_decimal(1, !bits as u64 + 1);
+    }
+}
+
+fn show_i32(bytes: &[u8], at: usize) {
+    match number::read_i32(bytes, Cursor::new(at)) {
+        I32Read::Value(v, next) => {
+            print_i32(v);
+            print(b", end ");
+            io::print_decimal(1, next.at as u64);
+            print(b"\n");
+        }
+        I32Read::Refused(refusal) => print_refusal(refusal),
+    }
+}
+
+fn show_build(limits: TConfiguration) {
+    match limits.build() {
+        Built::Limits(_) => print(b"built\n"),
+        Built::Refused(refusal) => print_refusal(refusal),
+    }
+}
+
+fn main() {
+    print(b"i32 of FF FF FF FE: ");
+    show_i32(b"\xFF\xFF\xFF\xFE", 0);
+    print(b"i32 of 00 00 00: ");
+    show_i32(b"\x00\x00\x00", 0);
+    print(b"i32 at 4 of 00 00 00: ");
+    show_i32(b"\x00\x00\x00", 4);
+    print(b"frame limit equal to message limit: ");
+    show_build(TConfiguration::default().max_message_size(Limit::AtMost(16_384_000)));
+    print(b"frame limit one above message limit: ");
+    show_build(TConfiguration::default().max_message_size(Limit::AtMost(16_383_999)));
+}

@@ -1,0 +1,125 @@
+// The five limits of a reader or writer, with the crate's names and defaults.
+use crate::limit::Limit;
+use wire::refusal::Kind;
+use wire::refusal::Refusal;
+ghost use mathlib.Core.Path.{_≡_};
+ghost use Rattle.config.specs.Limits.{limits, defaultLimits, noLimits, toldBuilt, builtFrom};
+
+pub struct TConfiguration {
+    pub max_message_size: Limit,
+    pub max_frame_size: Limit,
+    pub max_recursion_depth: Limit,
+    pub max_container_size: Limit,
+    pub max_string_size: Limit,
+}
+
+pub enum Built {
+    Limits(TConfiguration),
+    Refused(Refusal),
+}
+
+impl TConfiguration {
+    pub const DEFAULT_MAX_MESSAGE_SIZE: usize = 104_857_600;
+
+    pub const DEFAULT_MAX_FRAME_SIZE: usize = 16_384_000;
+
+    pub const DEFAULT_RECURSION_LIMIT: usize = 64;
+
+    pub const DEFAULT_CONTAINER_LIMIT: Limit = Limit::Absent;
+
+    pub const DEFAULT_STRING_LIMIT: usize = 104_857_600;
+
+    pub fn default() -> Self
+        ensures { λ r. ⌜ r ≡ defaultLimits ⌝ }
+    {
+        TConfiguration {
+            max_message_size: Limit::AtMost(TConfiguration::DEFAULT_MAX_MESSAGE_SIZE),
+            max_frame_size: Limit::AtMost(TConfiguration::DEFAULT_MAX_FRAME_SIZE),
+            max_recursion_depth: Limit::AtMost(TConfiguration::DEFAULT_RECURSION_LIMIT),
+            max_container_size: TConfiguration::DEFAULT_CONTAINER_LIMIT,
+            max_string_size: Limit::AtMost(TConfiguration::DEFAULT_STRING_LIMIT),
+        }
+    }
+
+    pub fn no_limits() -> Self
+        ensures { λ r. ⌜ r ≡ noLimits ⌝ }
+    {
+        TConfiguration {
+            max_message_size: Limit::Absent,
+            max_frame_size: Limit::Absent,
+            max_recursion_depth: Limit::Absent,
+            max_container_size: Limit::Absent,
+            max_string_size: Limit::Absent,
+        }
+    }
+
+    pub fn max_message_size(mut self, limit: Limit) -> Self
+        ensures { λ r. ⌜ r ≡ limits limit (self .«max_frame_size») (self .«max_recursion_depth») (self .«max_container_size») (self .«max_string_size») ⌝ }
+    {
+        self = TConfiguration {
+            max_message_size: limit,
+            ..self
+        };
+        self
+    }
+
+    pub fn max_frame_size(mut self, limit: Limit) -> Self
+        ensures { λ r. ⌜ r ≡ limits (self .«max_message_size») limit (self .«max_recursion_depth») (self .«max_container_size») (self .«max_string_size») ⌝ }
+    {
+        self = TConfiguration {
+            max_frame_size: limit,
+            ..self
+        };
+        self
+    }
+
+    pub fn max_recursion_depth(mut self, limit: Limit) -> Self
+        ensures { λ r. ⌜ r ≡ limits (self .«max_message_size») (self .«max_frame_size») limit (self .«max_container_size») (self .«max_string_size») ⌝ }
+    {
+        self = TConfiguration {
+            max_recursion_depth: limit,
+            ..self
+        };
+        self
+    }
+
+    pub fn max_container_size(mut self, limit: Limit) -> Self
+        ensures { λ r. ⌜ r ≡ limits (self .«max_message_size») (self .«max_frame_size») (self .«max_recursion_depth») limit (self .«max_string_size») ⌝ }
+    {
+        self = TConfiguration {
+            max_container_size: limit,
+            ..self
+        };
+        self
+    }
+
+    pub fn max_string_size(mut self, limit: Limit) -> Self
+        ensures { λ r. ⌜ r ≡ limits (self .«max_message_size») (self .«max_frame_size») (self .«max_recursion_depth») (self .«max_container_size») limit ⌝ }
+    {
+        self = TConfiguration {
+            max_string_size: limit,
+            ..self
+        };
+        self
+    }
+
+    // The limits to use, unless a frame may be larger than a message.
+    pub fn build(self) -> Built
+        ensures { λ r. ⌜ toldBuilt r ≡ builtFrom self ⌝ }
+    {
+        let frame = self.max_frame_size;
+        let message = self.max_message_size;
+        match frame {
+            Limit::AtMost(most) => {
+                if message.exceeded_by(most) {
+                    return Built::Refused(Refusal {
+                        kind: Kind::FrameAboveMessage,
+                        place: 0,
+                    });
+                }
+                Built::Limits(self)
+            }
+            Limit::Absent => Built::Limits(self),
+        }
+    }
+}

@@ -1,0 +1,3 @@
+// The limits: what a reader or writer is willing to take.
+pub mod configuration;
+pub mod limit;

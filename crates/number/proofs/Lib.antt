@@ -1,0 +1,4 @@
+pub mod Floats
+pub mod Settled
+pub mod TwosComplement
+pub mod Widths

@@ -1,0 +1,79 @@
+-- Big-endian numbers at any width: the number of the bytes, the bytes of the number, and reading at a cursor. Assumes nothing.
+use mathlib.Core.Path.{_≡_, refl, sym, _∙_, ap}
+use mathlib.Core.List.{List, [], _∷_, _++_, append-assoc}
+use Prim.Native.Nat.{ℕ, zero, suc, _+_, _*_, _/_, _%_, _^_, _<_, _≤_}
+use native.Mathlib.Nat.{mod-one, pow-suc, pow-zero, add-zero, zero-add, add-assoc, mul-assoc, mul-one, add-mul}
+use native.Mathlib.Numerals.{add-one}
+use native.Mathlib.Omega.{arith}
+use lib.Arith.{mod-mul}
+use lib.Dec.{lit<}
+use lib.ListN.{length, getD, take, drop, length-append, length-drop}
+use lib.Seq.{take-suc, getD-drop}
+use Rattle.wire.specs.Answer.{Answer, gives, refused, andThen, within, itemAt}
+use Rattle.wire.specs.Refusals.{toldMoved, toldRefusal}
+use Rattle.wire.specs.declared.cursor.Cursor.{Cursor}
+use Rattle.wire.specs.declared.cursor.Moved.{Moved}
+use Rattle.wire.specs.declared.cursor.Moved.the-variants as M
+use Rattle.wire.specs.declared.refusal.Refusal.{Refusal}
+use Rattle.wire.proofs.Answers.{first-fault, goes-on}
+use Rattle.wire.proofs.Within.{Inside, inside}
+use Rattle.number.specs.BigEndian.{big, bytesOf}
+use Rattle.number.specs.Sums.{sumAt}
+use Rattle.number.specs.Reads.{numberAt}
+
+-- one byte more at the end
+big-snoc : (bs : List ℕ) (b : ℕ) → big (bs ++ b ∷ []) ≡ big bs * 256 + b
+unfolding big
+big-snoc [] b = rw (pow-zero 256) (omega arith)
+big-snoc (a ∷ bs) b =
+    rw (big-snoc bs b, length-append bs (b ∷ []), add-one, pow-suc 256 (length bs), ← mul-assoc a (256 ^ length bs) 256) (omega arith)
+
+sum-suc : (w : ℕ) (s : List ℕ) (at : ℕ) → sumAt (suc w) s at ≡ sumAt w s at * 256 + getD s (at + w) 0
+sum-suc zero s at = rw add-zero (omega arith)
+sum-suc (suc w) s at = refl
+
+-- the bytes at a place stand for their sum
+pub big-sum : (w : ℕ) (s : List ℕ) (at : ℕ) → at + w ≤ length s → big (take w (drop at s)) ≡ sumAt w s at
+unfolding big
+big-sum zero s at h = refl
+big-sum (suc w) s at h =
+    rw (
+      take-suc (drop at s) w 0 (rw (length-drop at s) (omega arith)),
+      big-snoc (take w (drop at s)) (getD (drop at s) w 0),
+      big-sum w s at (omega arith),
+      getD-drop at s w 0,
+      sum-suc w s at,
+    )
+
+pub length-bytesOf : (w n : ℕ) → length (bytesOf w n) ≡ w
+unfolding bytesOf
+length-bytesOf zero n = refl
+length-bytesOf (suc w) n = length-append (bytesOf w (n / 256)) (n % 256 ∷ []) ∙ rw (length-bytesOf w (n / 256), add-one)
+
+powers : (w : ℕ) → 0 < 256 ^ w
+powers zero = lit< tt
+powers (suc w) = let h : 0 < 256 ^ w = powers w in rw (pow-suc 256 w) (omega arith)
+
+-- what is written reads back
+pub written : (w n : ℕ) → big (bytesOf w n) ≡ n % 256 ^ w
+unfolding big bytesOf
+written zero n = sym (mod-one n)
+written (suc w) n =
+    rw (big-snoc (bytesOf w (n / 256)) (n % 256), written w (n / 256), pow-suc 256 w, mod-mul n (powers w) (lit< tt))
+
+-- a number that is read: the two ways out of every read of this crate
+module _ {A : Type 0} (w : ℕ) (f : ℕ → A) (s : List ℕ) (at : ℕ) where
+  item-there : {m : Moved} {c : Cursor} → m ≡ M.To c → toldMoved m ≡ within s at w → gives tt (c .at) ≡ within s at w
+  item-there e t = sym (ap toldMoved e) ∙ t
+
+  pub fits : {m : Moved} {c : Cursor} → m ≡ M.To c → toldMoved m ≡ within s at w → at + w ≤ length s
+  fits e t = inside s at w (item-there e t) .room
+
+  pub read : {m : Moved} {c : Cursor} {v : A} → m ≡ M.To c → toldMoved m ≡ within s at w → v ≡ f (sumAt w s at)
+      → gives v (c .at) ≡ numberAt w f s at
+  unfolding numberAt itemAt andThen
+  read {m} {c} {v} e t h = rw (h, ← big-sum w s at (fits e t), ← item-there e t)
+
+  pub refuses : {m : Moved} {x : Refusal} → m ≡ M.Refused x → toldMoved m ≡ within s at w → toldRefusal x ≡ numberAt w f s at
+  unfolding numberAt itemAt
+  refuses e t = first-fault _ (first-fault _ (sym (ap toldMoved e) ∙ t))

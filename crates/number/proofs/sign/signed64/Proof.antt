@@ -1,0 +1,15 @@
+-- Assumes nothing.
+use borrow.Author.Needs.{needs}
+use mir.Syntax.{w64}
+use Rattle.number.proofs.TwosComplement.{flipped}
+use Rattle.number.proofs.sign.signed64.Statement.{statement}
+use Rattle.number.proofs.sign.signed64.Tie as tie
+
+pub signed64-spec : {M : Type 1} → statement M
+signed64-spec =
+    tie.close
+    (tie.spec
+    (λ c. search needs)
+    (λ c. search needs)
+    (λ c. search needs)
+    (λ c. flipped w64 _ (c .before .fits .bits)))

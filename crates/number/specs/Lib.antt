@@ -1,0 +1,4 @@
+pub mod BigEndian
+pub mod Reads
+pub mod Sums
+pub mod Told

@@ -1,0 +1,6 @@
+pub mod Answers
+pub mod Refusals
+pub mod RoundTrips
+pub mod Tables
+pub mod Unique
+pub mod Within

@@ -1,0 +1,110 @@
+-- The bytes that stand for types and for message types, and the least sizes of 01's rule 9.
+use Prim.Native.Nat.{ℕ}
+use mathlib.Core.List.{List, [], _∷_}
+use lib.ListN.{getD}
+use Rattle.wire.specs.declared.codes.TType.{TType}
+use Rattle.wire.specs.declared.codes.TType.the-variants as T
+use Rattle.wire.specs.declared.codes.TMessageType.{TMessageType}
+use Rattle.wire.specs.declared.codes.TMessageType.the-variants as M
+use Rattle.wire.specs.declared.codes.Typed.{Typed}
+use Rattle.wire.specs.declared.codes.Typed.the-variants as Type-of
+use Rattle.wire.specs.declared.codes.Messaged.{Messaged}
+use Rattle.wire.specs.declared.codes.Messaged.the-variants as Message-of
+
+-- the byte that a type is written as
+abbrev pub typeByte : TType → ℕ
+typeByte T.Stop = 0x00
+typeByte T.Void = 0x01
+typeByte T.Bool = 0x02
+typeByte T.I08 = 0x03
+typeByte T.Double = 0x04
+typeByte T.I16 = 0x06
+typeByte T.I32 = 0x08
+typeByte T.I64 = 0x0A
+typeByte T.String = 0x0B
+typeByte T.Utf7 = 0x0B
+typeByte T.Struct = 0x0C
+typeByte T.Map = 0x0D
+typeByte T.Set = 0x0E
+typeByte T.List = 0x0F
+typeByte T.Uuid = 0x10
+
+-- what the bytes from 00 on are read as: 0B as String; 05, 07 and 09 stand for nothing, and so do all above 10
+abbrev pub types : List Typed
+types =
+    Type-of.Known T.Stop
+    ∷ Type-of.Known T.Void
+    ∷ Type-of.Known T.Bool
+    ∷ Type-of.Known T.I08
+    ∷ Type-of.Known T.Double
+    ∷ Type-of.Unknown
+    ∷ Type-of.Known T.I16
+    ∷ Type-of.Unknown
+    ∷ Type-of.Known T.I32
+    ∷ Type-of.Unknown
+    ∷ Type-of.Known T.I64
+    ∷ Type-of.Known T.String
+    ∷ Type-of.Known T.Struct
+    ∷ Type-of.Known T.Map
+    ∷ Type-of.Known T.Set
+    ∷ Type-of.Known T.List
+    ∷ Type-of.Known T.Uuid
+    ∷ []
+
+abbrev pub typeOf : ℕ → Typed
+typeOf b = getD types b Type-of.Unknown
+
+-- the type that a written type is read as: Utf7 shares String's byte
+abbrev pub asRead : TType → TType
+asRead T.Stop = T.Stop
+asRead T.Void = T.Void
+asRead T.Bool = T.Bool
+asRead T.I08 = T.I08
+asRead T.Double = T.Double
+asRead T.I16 = T.I16
+asRead T.I32 = T.I32
+asRead T.I64 = T.I64
+asRead T.String = T.String
+asRead T.Utf7 = T.String
+asRead T.Struct = T.Struct
+asRead T.Map = T.Map
+asRead T.Set = T.Set
+asRead T.List = T.List
+asRead T.Uuid = T.Uuid
+
+-- Call 1, Reply 2, Exception 3, OneWay 4, and nothing else
+abbrev pub messageByte : TMessageType → ℕ
+messageByte M.Call = 1
+messageByte M.Reply = 2
+messageByte M.Exception = 3
+messageByte M.OneWay = 4
+
+abbrev pub messages : List Messaged
+messages =
+    Message-of.Unknown
+    ∷ Message-of.Known M.Call
+    ∷ Message-of.Known M.Reply
+    ∷ Message-of.Known M.Exception
+    ∷ Message-of.Known M.OneWay
+    ∷ []
+
+abbrev pub messageOf : ℕ → Messaged
+messageOf b = getD messages b Message-of.Unknown
+
+-- rule 9: the fewest bytes that a value of the type takes
+abbrev pub leastSize : TType → ℕ
+leastSize T.Stop = 1
+leastSize T.Void = 1
+leastSize T.Bool = 1
+leastSize T.I08 = 1
+leastSize T.Double = 8
+leastSize T.I16 = 2
+leastSize T.I32 = 4
+leastSize T.I64 = 8
+leastSize T.String = 4
+leastSize T.Utf7 = 1
+leastSize T.Struct = 1
+leastSize T.Map = 4
+leastSize T.Set = 4
+leastSize T.List = 4
+leastSize T.Uuid = 16

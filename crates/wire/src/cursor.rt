@@ -1,0 +1,43 @@
+// The place in a lent slice, by value: a call is handed one and answers with the moved one.
+use crate::refusal::Kind;
+use crate::refusal::Refusal;
+ghost use mathlib.Core.Path.{_≡_};
+ghost use Rattle.wire.specs.Answer.{within};
+ghost use Rattle.wire.specs.Refusals.{toldMoved};
+
+pub struct Cursor {
+    pub at: usize,
+}
+
+pub enum Moved {
+    To(Cursor),
+    Refused(Refusal),
+}
+
+impl Cursor {
+    pub fn new(at: usize) -> Self
+        ensures { λ r. ⌜ r .at ≡ at ⌝ }
+    {
+        Cursor { at }
+    }
+
+    // Past an item of so many bytes: every read starts here.
+    pub fn past(self, bytes: &[u8], width: usize) -> Moved
+        ensures { λ r. ⌜ toldMoved r ≡ within (now (bytes .entry)) (self .at) width ⌝ }
+    {
+        let at = self.at;
+        if bytes.len() < at {
+            return Moved::Refused(Refusal {
+                kind: Kind::StartBeyond,
+                place: at,
+            });
+        }
+        if bytes.len() - at < width {
+            return Moved::Refused(Refusal {
+                kind: Kind::ShortInput,
+                place: at,
+            });
+        }
+        Moved::To(Cursor { at: at + width })
+    }
+}

@@ -1,0 +1,4 @@
+// What every layer above shares: the codes of types and messages, the refusal, and the cursor.
+pub mod codes;
+pub mod cursor;
+pub mod refusal;
