@@ -2,6 +2,7 @@
 use config::configuration::Built;
 use config::configuration::TConfiguration;
 use config::limit::Limit;
+use message::MessageRead;
 use number::I32Read;
 use wire::cursor::Cursor;
 use wire::refusal::Refusal;
@@ -48,7 +49,34 @@ fn show_build(limits: TConfiguration) {
     }
 }
 
+fn show_message(bytes: &[u8], strict: bool) {
+    let start = Cursor::new(0);
+    let limits = TConfiguration::default();
+    match message::read_message_begin(bytes, start, strict, limits) {
+        MessageRead::Value(m, next) => {
+            print(b"type ");
+            let t = m.message_type;
+            io::print_decimal(1, wire::codes::message_type_to_u8(t) as u64);
+            print(b", name ");
+            print(message::name_part(bytes, start, strict, limits));
+            print(b", number ");
+            let n = m.sequence_number;
+            print_i32(n);
+            print(b", end ");
+            io::print_decimal(1, next.at as u64);
+            print(b"\n");
+        }
+        MessageRead::Refused(refusal) => print_refusal(refusal),
+    }
+}
+
 fn main() {
+    print(b"W1 strict read of 80 01 00 01 00 00 00 02 61 62 00 00 00 07: ");
+    show_message(b"\x80\x01\x00\x01\x00\x00\x00\x02ab\x00\x00\x00\x07", true);
+    print(b"W2 non-strict read of 00 00 00 02 61 62 01 00 00 00 07: ");
+    show_message(b"\x00\x00\x00\x02ab\x01\x00\x00\x00\x07", false);
+    print(b"W3 strict read of W2: ");
+    show_message(b"\x00\x00\x00\x02ab\x01\x00\x00\x00\x07", true);
     print(b"i32 of FF FF FF FE: ");
     show_i32(b"\xFF\xFF\xFF\xFE", 0);
     print(b"i32 of 00 00 00: ");

@@ -34,3 +34,19 @@ first-fault rest e = rw (← e)
 pub goes-on : {A B : Type 0} {m : Answer A} {v : A} {p : ℕ} (rest : A → ℕ → Answer B) → gives v p ≡ m → rest v p ≡ andThen m rest
 unfolding andThen
 goes-on rest e = rw (← e)
+
+-- what an answer tells, where it is known
+pub told-as : {E A : Type 0} (told : E → Answer A) {x y : E} {m : Answer A} → x ≡ y → told x ≡ m → told y ≡ m
+told-as told e t = sym (ap told e) ∙ t
+
+-- an answer that gives has gone through both steps
+pub record Went {A B : Type 0} (m : Answer A) (rest : A → ℕ → Answer B) (w : B) (q : ℕ) : Type 0 where
+  pub value : A
+  pub place : ℕ
+  pub gave : gives value place ≡ m
+  pub on : gives w q ≡ rest value place
+
+pub went : {A B : Type 0} (m : Answer A) (rest : A → ℕ → Answer B) {w : B} {q : ℕ} → gives w q ≡ andThen m rest → Went m rest w q
+unfolding andThen
+went (gives v p) rest e = record { value = v; place = p; gave = refl; on = e }
+went (refused n p) rest e = let z : _≡_ {A = ℕ} 0 1 = cc in absurd (omega arith)

@@ -1,4 +1,5 @@
 pub mod Answers
+pub mod Least
 pub mod Refusals
 pub mod RoundTrips
 pub mod Tables

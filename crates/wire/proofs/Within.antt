@@ -6,7 +6,7 @@ use native.Mathlib.Omega.{arith}
 use borrow.Author.Tests.{lt-ltb, le-ltb, ltb-false}
 use lib.Dec.{ltb}
 use lib.ListN.{length, take, drop}
-use Rattle.wire.specs.Answer.{Answer, gives, refused, refuseIf, within, itemAt}
+use Rattle.wire.specs.Answer.{gives, refused, refuseIf, within, stayAt}
 use Rattle.wire.proofs.Answers.{Passed, passed}
 
 -- so many bytes lie inside, and the place after them is as many on
@@ -33,3 +33,11 @@ module _ (s : List ℕ) (at w : ℕ) where
       let a = passed (ltb (length s) at) 2 at _ e in
       let b = passed (ltb (length s - at) w) 1 at (gives tt (at + w)) (a .gave) in
       record { room = omega (arith, ltb-false (length s) at (a .test), ltb-false (length s - at) w (b .test)); next = cc (b .gave) }
+
+  pub stay-beyond : length s < at → refused 2 at ≡ stayAt s at
+  unfolding stayAt refuseIf
+  stay-beyond h = rw (lt-ltb _ _ h)
+
+  pub stays : at ≤ length s → gives tt at ≡ stayAt s at
+  unfolding stayAt refuseIf
+  stays h = rw (le-ltb _ _ h)

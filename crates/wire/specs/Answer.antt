@@ -20,12 +20,17 @@ unfoldable pub andThen : {A B : Type 0} → Answer A → (A → ℕ → Answer B
 andThen (gives v p) rest = rest v p
 andThen (refused n p) rest = refused n p
 
--- So many bytes at a place of s: 2 where the place is beyond the length, 1 where they are not all there, else the place after them
+-- every entry: 2 where the place is beyond the length, then the rest
+abbrev pub entry : {A : Type 0} → List ℕ → ℕ → Answer A → Answer A
+entry s at rest = refuseIf (ltb (length s) at) 2 at rest
+
+-- no byte is taken: the ends of messages, fields, lists, sets and maps
+unfoldable pub stayAt : List ℕ → ℕ → Answer Unit
+stayAt s at = entry s at (gives tt at)
+
+-- So many bytes at a place of s: 2, then 1 where they are not all there, else the place after them
 unfoldable pub within : List ℕ → ℕ → ℕ → Answer Unit
-within s at w =
-    refuseIf (ltb (length s) at) 2 at
-    (refuseIf (ltb (length s - at) w) 1 at
-    (gives tt (at + w)))
+within s at w = entry s at (refuseIf (ltb (length s - at) w) 1 at (gives tt (at + w)))
 
 -- an item of w bytes at a place: the bytes themselves
 unfoldable pub itemAt : List ℕ → ℕ → ℕ → Answer (List ℕ)

@@ -1,6 +1,8 @@
 -- The bytes that stand for types and for message types, and the least sizes of 01's rule 9.
 use Prim.Native.Nat.{ℕ}
+use mathlib.Core.Bool.{Bool}
 use mathlib.Core.List.{List, [], _∷_}
+use lib.Dec.{eqb}
 use lib.ListN.{getD}
 use Rattle.wire.specs.declared.codes.TType.{TType}
 use Rattle.wire.specs.declared.codes.TType.the-variants as T
@@ -53,6 +55,10 @@ types =
 
 abbrev pub typeOf : ℕ → Typed
 typeOf b = getD types b Type-of.Unknown
+
+-- a type that ends a struct's fields: the one of byte 00
+abbrev pub isStop : TType → Bool
+isStop t = eqb (typeByte t) 0
 
 -- the type that a written type is read as: Utf7 shares String's byte
 abbrev pub asRead : TType → TType

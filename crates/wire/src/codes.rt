@@ -1,6 +1,6 @@
 // The codes of types and of message types, and the least bytes that a value of a type takes.
 ghost use mathlib.Core.Path.{_≡_};
-ghost use Rattle.wire.specs.Codes.{typeByte, typeOf, messageByte, messageOf, leastSize};
+ghost use Rattle.wire.specs.Codes.{typeByte, typeOf, isStop, messageByte, messageOf, leastSize};
 
 pub enum TType {
     Stop,
@@ -25,6 +25,15 @@ pub enum TMessageType {
     Reply,
     Exception,
     OneWay,
+}
+
+impl TType {
+    // Whether this ends a struct's fields.
+    pub fn is_stop(self) -> bool
+        ensures { λ r. ⌜ r ≡ isStop self ⌝ }
+    {
+        field_type_to_u8(self) == 0
+    }
 }
 
 // What a type byte, or a message type byte, stands for.

@@ -2,7 +2,7 @@
 use crate::refusal::Kind;
 use crate::refusal::Refusal;
 ghost use mathlib.Core.Path.{_≡_};
-ghost use Rattle.wire.specs.Answer.{within};
+ghost use Rattle.wire.specs.Answer.{within, stayAt};
 ghost use Rattle.wire.specs.Refusals.{toldMoved};
 
 pub struct Cursor {
@@ -39,5 +39,19 @@ impl Cursor {
             });
         }
         Moved::To(Cursor { at: at + width })
+    }
+
+    // Past nothing: only that the place lies within.
+    pub fn stay(self, bytes: &[u8]) -> Moved
+        ensures { λ r. ⌜ toldMoved r ≡ stayAt (now (bytes .entry)) (self .at) ⌝ }
+    {
+        let at = self.at;
+        if bytes.len() < at {
+            return Moved::Refused(Refusal {
+                kind: Kind::StartBeyond,
+                place: at,
+            });
+        }
+        Moved::To(self)
     }
 }

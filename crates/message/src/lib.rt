@@ -1,0 +1,160 @@
+// A message's header: with a version (strict), or in the older layout that starts with the name.
+use config::configuration::TConfiguration;
+use number::ByteRead;
+use number::I32Read;
+use text::Span;
+use text::TextRead;
+use wire::codes::Messaged;
+use wire::codes::TMessageType;
+use wire::cursor::Cursor;
+use wire::cursor::Moved;
+use wire::refusal::Kind;
+use wire::refusal::Refusal;
+ghost use mathlib.Core.Path.{_≡_};
+ghost use Rattle.wire.specs.Answer.{stayAt};
+ghost use Rattle.wire.specs.Refusals.{toldMoved};
+ghost use Rattle.message.specs.Messages.{messageTypeAt, namedAt, unversionedAt, versionedAt, messageAt, nameOf};
+ghost use Rattle.text.specs.Texts.{partOf};
+ghost use Rattle.message.specs.Told.{toldMessageType, toldMessage};
+
+pub struct TMessageIdentifier {
+    pub name: Span,
+    pub message_type: TMessageType,
+    pub sequence_number: i32,
+}
+
+pub enum MessageRead {
+    Value(TMessageIdentifier, Cursor),
+    Refused(Refusal),
+}
+
+pub enum MessageTypeRead {
+    Value(TMessageType, Cursor),
+    Refused(Refusal),
+}
+
+pub fn read_message_type(bytes: &[u8], cursor: Cursor) -> MessageTypeRead
+    ensures { λ r. ⌜ toldMessageType r ≡ messageTypeAt (now (bytes .entry)) (cursor .at) ⌝ }
+{
+    let at = cursor.at;
+    match number::read_byte(bytes, cursor) {
+        ByteRead::Value(b, next) => match wire::codes::message_type_from_u8(b) {
+            Messaged::Known(message_type) => MessageTypeRead::Value(message_type, next),
+            Messaged::Unknown => MessageTypeRead::Refused(Refusal {
+                kind: Kind::BadMessageType,
+                place: at,
+            }),
+        },
+        ByteRead::Refused(refusal) => MessageTypeRead::Refused(refusal),
+    }
+}
+
+// The sequence number, which comes last in both layouts.
+fn read_sequence(
+    bytes: &[u8],
+    cursor: Cursor,
+    name: Span,
+    message_type: TMessageType,
+) -> MessageRead
+    ensures { λ r. ⌜ toldMessage r ≡ namedAt name «message_type» (now (bytes .entry)) (cursor .at) ⌝ }
+{
+    match number::read_i32(bytes, cursor) {
+        I32Read::Value(sequence_number, next) => MessageRead::Value(
+            TMessageIdentifier {
+                name,
+                message_type,
+                sequence_number,
+            },
+            next,
+        ),
+        I32Read::Refused(refusal) => MessageRead::Refused(refusal),
+    }
+}
+
+// After a version: the type, the name, the sequence number.
+fn read_versioned(bytes: &[u8], cursor: Cursor, config: TConfiguration) -> MessageRead
+    ensures { λ r. ⌜ toldMessage r ≡ versionedAt (config .«max_string_size») (now (bytes .entry)) (cursor .at) ⌝ }
+{
+    match read_message_type(bytes, cursor) {
+        MessageTypeRead::Value(message_type, named) => {
+            match text::read_string(bytes, named, config) {
+                TextRead::Value(name, next) => read_sequence(bytes, next, name, message_type),
+                TextRead::Refused(refusal) => MessageRead::Refused(refusal),
+            }
+        }
+        MessageTypeRead::Refused(refusal) => MessageRead::Refused(refusal),
+    }
+}
+
+// The older layout: the name, the type, the sequence number.
+fn read_unversioned(bytes: &[u8], cursor: Cursor, config: TConfiguration) -> MessageRead
+    ensures { λ r. ⌜ toldMessage r ≡ unversionedAt (config .«max_string_size») (now (bytes .entry)) (cursor .at) ⌝ }
+{
+    match text::read_string(bytes, cursor, config) {
+        TextRead::Value(name, typed) => match read_message_type(bytes, typed) {
+            MessageTypeRead::Value(message_type, next) => {
+                read_sequence(bytes, next, name, message_type)
+            }
+            MessageTypeRead::Refused(refusal) => MessageRead::Refused(refusal),
+        },
+        TextRead::Refused(refusal) => MessageRead::Refused(refusal),
+    }
+}
+
+fn bad_version(at: usize) -> MessageRead
+    ensures { λ r. ⌜ r ≡ MessageRead.Refused (record { kind = Kind.BadVersion; place = at }) ⌝ }
+{
+    MessageRead::Refused(Refusal {
+        kind: Kind::BadVersion,
+        place: at,
+    })
+}
+
+// The top bit of the first byte tells the layouts apart. Byte 2 of a version is not looked at.
+pub fn read_message_begin(
+    bytes: &[u8],
+    cursor: Cursor,
+    strict: bool,
+    config: TConfiguration,
+) -> MessageRead
+    ensures { λ r. ⌜ toldMessage r ≡ messageAt strict (config .«max_string_size») (now (bytes .entry)) (cursor .at) ⌝ }
+{
+    let at = cursor.at;
+    match cursor.past(bytes, 4) {
+        Moved::To(_) => {
+            if bytes[at] < 0x80 {
+                if strict {
+                    return bad_version(at);
+                }
+                return read_unversioned(bytes, cursor, config);
+            }
+            if bytes[at] != 0x80 {
+                return bad_version(at);
+            }
+            if bytes[at + 1] != 0x01 {
+                return bad_version(at);
+            }
+            read_versioned(bytes, Cursor::new(at + 3), config)
+        }
+        Moved::Refused(refusal) => MessageRead::Refused(refusal),
+    }
+}
+
+pub fn read_message_end(bytes: &[u8], cursor: Cursor) -> Moved
+    ensures { λ r. ⌜ toldMoved r ≡ stayAt (now (bytes .entry)) (cursor .at) ⌝ }
+{
+    cursor.stay(bytes)
+}
+
+// The name's own bytes, none where the header is refused.
+pub fn name_part(bytes: &[u8], cursor: Cursor, strict: bool, config: TConfiguration) -> &[u8]
+    ensures { λ r. ⌜ now r ≡ partOf (now (bytes .entry)) (nameOf (messageAt strict (config .«max_string_size») (now (bytes .entry)) (cursor .at))) ⌝ }
+{
+    match read_message_begin(bytes, cursor, strict, config) {
+        MessageRead::Value(message, _) => {
+            let name = message.name;
+            text::part(bytes, name)
+        }
+        MessageRead::Refused(_) => &bytes[..0],
+    }
+}

@@ -1,0 +1,157 @@
+-- The cases of each header, each from what leads to it. Assumes nothing.
+use Prim.Native.Nat.{ℕ, _+_, _*_, _-_, _^_, _<_, _≤_}
+use native.Mathlib.Nat.{mul-le-mul-left}
+use native.Mathlib.Omega.{arith}
+use mathlib.Core.Path.{_≡_, refl, sym, _∙_, ap}
+use mathlib.Core.Bool.{true, false}
+use mathlib.Core.List.{List}
+use borrow.Author.Tests.{lt-ltb, le-ltb, eq-eqb, ne-eqb}
+use lib.IntN.{ℤ, pos, natAbs}
+use lib.ListN.{length}
+use Rattle.wire.specs.Answer.{Answer, gives, refused, refuseIf, andThen, entry}
+use Rattle.wire.specs.Codes.{typeOf, isStop, leastSize}
+use Rattle.wire.specs.declared.codes.TType.{TType}
+use Rattle.wire.specs.declared.codes.Typed.the-variants as Type-of
+use Rattle.wire.proofs.Answers.{first-fault, goes-on}
+use Rattle.number.specs.Reads.{byteAt, i16At}
+use Rattle.config.specs.Limits.{above, reached}
+use Rattle.config.specs.declared.limit.Limit.{Limit}
+use Rattle.config.specs.declared.configuration.TConfiguration.{TConfiguration}
+use Rattle.text.specs.Texts.{sizeAt}
+use Rattle.read.specs.Headers.{typeAt, field, fieldAt, countAt, list, listAt, asSet, setAt, map, mapAt, structBeginAt, structEndAt}
+use Rattle.read.specs.declared.container.TListIdentifier.{TListIdentifier}
+
+module _ (s : List ℕ) (at : ℕ) where
+  pub no-type-byte : {n p : ℕ} → refused n p ≡ byteAt s at → refused n p ≡ typeAt s at
+  unfolding typeAt
+  no-type-byte e = first-fault _ e
+
+  module _ {b next : ℕ} (e : gives b next ≡ byteAt s at) where
+    pub type-known : {t : TType} → typeOf b ≡ Type-of.Known t → gives t next ≡ typeAt s at
+    unfolding typeAt andThen
+    type-known h = rw (← e, h)
+
+    pub type-unknown : typeOf b ≡ Type-of.Unknown → refused 5 at ≡ typeAt s at
+    unfolding typeAt andThen
+    type-unknown h = rw (← e, h)
+
+  pub no-field : {n p : ℕ} → refused n p ≡ typeAt s at → refused n p ≡ fieldAt s at
+  unfolding fieldAt
+  no-field e = first-fault _ e
+
+  module _ {t : TType} {next : ℕ} (e : gives t next ≡ typeAt s at) where
+    pub stop : isStop t ≡ true → gives (field t (pos 0)) next ≡ fieldAt s at
+    unfolding fieldAt andThen
+    stop h = rw (← e, h)
+
+    pub no-id : isStop t ≡ false → {n p : ℕ} → refused n p ≡ i16At s next → refused n p ≡ fieldAt s at
+    unfolding fieldAt andThen
+    no-id h f = rw (← e, h, ← f)
+
+    pub with-id : isStop t ≡ false → {id : ℤ} {end : ℕ} → gives id end ≡ i16At s next → gives (field t id) end ≡ fieldAt s at
+    unfolding fieldAt andThen
+    with-id h f = rw (← e, h, ← f)
+
+module _ (c : TConfiguration) (least : ℕ) (s : List ℕ) (at : ℕ) where
+  pub no-count : {n p : ℕ} → refused n p ≡ sizeAt s at → refused n p ≡ countAt c least s at
+  unfolding countAt
+  no-count e = first-fault _ e
+
+  module _ {v : ℤ} {next : ℕ} (e : gives v next ≡ sizeAt s at) where
+    pub too-many : above (natAbs v) (c .«max_container_size») ≡ true → refused 8 at ≡ countAt c least s at
+    unfolding countAt andThen refuseIf
+    too-many h = rw (← e, h)
+
+    module _ (h : above (natAbs v) (c .«max_container_size») ≡ false) where
+      pub too-large : above (natAbs v * least) (c .«max_message_size») ≡ true → refused 9 at ≡ countAt c least s at
+      unfolding countAt andThen refuseIf
+      too-large i = rw (← e, h, i)
+
+      pub count : above (natAbs v * least) (c .«max_message_size») ≡ false → gives v next ≡ countAt c least s at
+      unfolding countAt andThen refuseIf
+      count i = rw (← e, h, i)
+
+module _ (c : TConfiguration) (s : List ℕ) (at : ℕ) where
+  pub no-element-type : {n p : ℕ} → refused n p ≡ typeAt s at → refused n p ≡ listAt c s at
+  unfolding listAt
+  no-element-type e = first-fault _ e
+
+  module _ {t : TType} {next : ℕ} (e : gives t next ≡ typeAt s at) where
+    pub no-list : {n p : ℕ} → refused n p ≡ countAt c (leastSize t) s next → refused n p ≡ listAt c s at
+    unfolding listAt andThen
+    no-list f = rw (← e, ← f)
+
+    pub a-list : {size : ℤ} {end : ℕ} → gives size end ≡ countAt c (leastSize t) s next → gives (list t size) end ≡ listAt c s at
+    unfolding listAt andThen
+    a-list f = rw (← e, ← f)
+
+  pub no-set : {n p : ℕ} → refused n p ≡ listAt c s at → refused n p ≡ setAt c s at
+  unfolding setAt
+  no-set e = first-fault _ e
+
+  pub a-set : {l : TListIdentifier} {end : ℕ} → gives l end ≡ listAt c s at → gives (asSet l) end ≡ setAt c s at
+  unfolding setAt
+  a-set e = goes-on _ e
+
+  pub no-key-type : {n p : ℕ} → refused n p ≡ typeAt s at → refused n p ≡ mapAt c s at
+  unfolding mapAt
+  no-key-type e = first-fault _ e
+
+  module _ {k : TType} {value : ℕ} (e : gives k value ≡ typeAt s at) where
+    pub no-value-type : {n p : ℕ} → refused n p ≡ typeAt s value → refused n p ≡ mapAt c s at
+    unfolding mapAt andThen
+    no-value-type f = rw (← e, ← f)
+
+    module _ {v : TType} {next : ℕ} (f : gives v next ≡ typeAt s value) where
+      pub no-map : {n p : ℕ} → refused n p ≡ countAt c (leastSize k + leastSize v) s next → refused n p ≡ mapAt c s at
+      unfolding mapAt andThen
+      no-map g = rw (← e, ← f, ← g)
+
+      pub a-map : {size : ℤ} {end : ℕ} → gives size end ≡ countAt c (leastSize k + leastSize v) s next → gives (map k v size) end ≡ mapAt c s at
+      unfolding mapAt andThen
+      a-map g = rw (← e, ← f, ← g)
+
+module _ (limit : Limit) (depth : ℕ) (s : List ℕ) (at : ℕ) where
+  pub begin-beyond : length s < at → refused 2 at ≡ structBeginAt limit depth s at
+  unfolding structBeginAt refuseIf
+  begin-beyond h = rw (lt-ltb _ _ h)
+
+  module _ (h : at ≤ length s) where
+    pub begin-deep : 65535 < depth → refused 20 at ≡ structBeginAt limit depth s at
+    unfolding structBeginAt refuseIf
+    begin-deep i = rw (le-ltb _ _ h, lt-ltb _ _ i)
+
+    module _ (i : depth ≤ 65535) where
+      pub begin-limited : reached depth limit ≡ true → refused 11 at ≡ structBeginAt limit depth s at
+      unfolding structBeginAt refuseIf
+      begin-limited r = rw (le-ltb _ _ h, le-ltb _ _ i, r)
+
+      pub begin-last : reached depth limit ≡ false → depth ≡ 65535 → refused 11 at ≡ structBeginAt limit depth s at
+      unfolding structBeginAt refuseIf
+      begin-last r e = rw (le-ltb _ _ h, le-ltb _ _ i, r, eq-eqb _ _ e)
+
+      pub begun : reached depth limit ≡ false → (depth ≡ 65535 → ⊥) → gives (depth + 1) at ≡ structBeginAt limit depth s at
+      unfolding structBeginAt refuseIf
+      begun r e = rw (le-ltb _ _ h, le-ltb _ _ i, r, ne-eqb _ _ e)
+
+module _ (depth : ℕ) (s : List ℕ) (at : ℕ) where
+  pub ends-beyond : length s < at → refused 2 at ≡ structEndAt depth s at
+  unfolding structEndAt refuseIf
+  ends-beyond h = rw (lt-ltb _ _ h)
+
+  module _ (h : at ≤ length s) where
+    pub ends-deep : 65535 < depth → refused 20 at ≡ structEndAt depth s at
+    unfolding structEndAt refuseIf
+    ends-deep i = rw (le-ltb _ _ h, lt-ltb _ _ i)
+
+    pub none-open : depth ≤ 65535 → depth ≡ 0 → refused 14 at ≡ structEndAt depth s at
+    unfolding structEndAt refuseIf
+    none-open i e = rw (le-ltb _ _ h, le-ltb _ _ i, eq-eqb _ _ e)
+
+    pub ended : depth ≤ 65535 → (depth ≡ 0 → ⊥) → gives (depth - 1) at ≡ structEndAt depth s at
+    unfolding structEndAt refuseIf
+    ended i e = rw (le-ltb _ _ h, le-ltb _ _ i, ne-eqb _ _ e)
+
+-- a 32-bit size times a least size fits a word
+pub product-fits : (n least : ℕ) → n < 2 ^ 32 → least ≤ 32 → n * least < 2 ^ 64
+product-fits n least h i = let j : n * least ≤ n * 32 = mul-le-mul-left n i in omega arith

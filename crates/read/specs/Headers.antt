@@ -1,0 +1,98 @@
+-- Headers: a type byte, a field, lists, sets and maps, struct begin and end, and the ends that take no bytes.
+use Prim.Native.Nat.{ℕ, _+_, _*_, _-_}
+use mathlib.Core.Bool.{Bool, true, false}
+use mathlib.Core.List.{List}
+use lib.Dec.{ltb, eqb}
+use lib.IntN.{ℤ, pos, natAbs}
+use Rattle.wire.specs.Answer.{Answer, gives, refused, refuseIf, andThen, entry}
+use Rattle.wire.specs.Codes.{typeOf, isStop, leastSize}
+use Rattle.wire.specs.declared.codes.TType.{TType}
+use Rattle.wire.specs.declared.codes.TType.the-variants as T
+use Rattle.wire.specs.declared.codes.Typed.{Typed}
+use Rattle.wire.specs.declared.codes.Typed.the-variants as Type-of
+use Rattle.number.specs.Reads.{byteAt, i16At}
+use Rattle.config.specs.Limits.{above, reached}
+use Rattle.config.specs.declared.limit.Limit.{Limit}
+use Rattle.config.specs.declared.configuration.TConfiguration.{TConfiguration}
+use Rattle.text.specs.Texts.{sizeAt}
+use Rattle.read.specs.declared.field.TFieldIdentifier.{TFieldIdentifier}
+use Rattle.read.specs.declared.container.TListIdentifier.{TListIdentifier}
+use Rattle.read.specs.declared.container.TSetIdentifier.{TSetIdentifier}
+use Rattle.read.specs.declared.container.TMapIdentifier.{TMapIdentifier}
+
+-- "type byte (1, 5)": what the byte stands for, or 5 at that byte
+abbrev pub known : ℕ → ℕ → Typed → Answer TType
+known at next (Type-of.Known t) = gives t next
+known at next Type-of.Unknown = refused 5 at
+
+unfoldable pub typeAt : List ℕ → ℕ → Answer TType
+typeAt s at = andThen (byteAt s at) λ b next. known at next (typeOf b)
+
+abbrev pub field : TType → ℤ → TFieldIdentifier
+field t id = record { «field_type» = t; id = id }
+
+-- "00 is Stop with id 0 and nothing more; else a 16-bit id"
+abbrev pub stopOr : Bool → Answer TFieldIdentifier → Answer TFieldIdentifier → Answer TFieldIdentifier
+stopOr true stop more = stop
+stopOr false stop more = more
+
+unfoldable pub fieldAt : List ℕ → ℕ → Answer TFieldIdentifier
+fieldAt s at =
+    andThen (typeAt s at) λ t next.
+    stopOr (isStop t) (gives (field t (pos 0)) next)
+    (andThen (i16At s next) λ id end. gives (field t id) end)
+
+-- a number of elements of at least so many bytes each: "then 6, 8, 9", and rule 9 counts size times the least bytes
+unfoldable pub countAt : TConfiguration → ℕ → List ℕ → ℕ → Answer ℤ
+countAt c least s at =
+    andThen (sizeAt s at) λ size next.
+    refuseIf (above (natAbs size) (c .«max_container_size»)) 8 at
+    (refuseIf (above (natAbs size * least) (c .«max_message_size»)) 9 at
+    (gives size next))
+
+abbrev pub list : TType → ℤ → TListIdentifier
+list t size = record { «element_type» = t; size = size }
+
+-- "type byte (5), size"
+unfoldable pub listAt : TConfiguration → List ℕ → ℕ → Answer TListIdentifier
+listAt c s at =
+    andThen (typeAt s at) λ t next.
+    andThen (countAt c (leastSize t) s next) λ size end.
+    gives (list t size) end
+
+-- a set is laid out as a list is
+abbrev pub asSet : TListIdentifier → TSetIdentifier
+asSet l = record { «element_type» = l .«element_type»; size = l .size }
+
+unfoldable pub setAt : TConfiguration → List ℕ → ℕ → Answer TSetIdentifier
+setAt c s at = andThen (listAt c s at) λ l end. gives (asSet l) end
+
+abbrev pub map : TType → TType → ℤ → TMapIdentifier
+map k v size = record { «key_type» = k; «value_type» = v; size = size }
+
+-- "key type (5), value type (5), size"; rule 9 counts "key plus value sizes"
+unfoldable pub mapAt : TConfiguration → List ℕ → ℕ → Answer TMapIdentifier
+mapAt c s at =
+    andThen (typeAt s at) λ k value.
+    andThen (typeAt s value) λ v next.
+    andThen (countAt c (leastSize k + leastSize v) s next) λ size end.
+    gives (map k v size) end
+
+-- "2, 20 (where it takes a struct depth)"
+abbrev pub depthEntry : {A : Type 0} → ℕ → List ℕ → ℕ → Answer A → Answer A
+depthEntry depth s at rest = entry s at (refuseIf (ltb 65535 depth) 20 at rest)
+
+-- "refused (11) at depth at or above the limit, or at 65,535 whatever the limit"
+unfoldable pub structBeginAt : Limit → ℕ → List ℕ → ℕ → Answer ℕ
+structBeginAt limit depth s at =
+    depthEntry depth s at
+    (refuseIf (reached depth limit) 11 at
+    (refuseIf (eqb depth 65535) 11 at
+    (gives (depth + 1) at)))
+
+-- "a struct end at 0 is 14"
+unfoldable pub structEndAt : ℕ → List ℕ → ℕ → Answer ℕ
+structEndAt depth s at =
+    depthEntry depth s at
+    (refuseIf (eqb depth 0) 14 at
+    (gives (depth - 1) at))

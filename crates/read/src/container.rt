@@ -1,0 +1,156 @@
+// Headers of lists, sets and maps: the types, then the size within its limits.
+use crate::field::TypeRead;
+use config::configuration::TConfiguration;
+use number::I32Read;
+use wire::codes::TType;
+use wire::cursor::Cursor;
+use wire::cursor::Moved;
+use wire::refusal::Kind;
+use wire::refusal::Refusal;
+ghost use mathlib.Core.Path.{_≡_};
+ghost use Prim.Native.Nat.{_≤_};
+ghost use Rattle.wire.specs.Answer.{stayAt};
+ghost use Rattle.wire.specs.Refusals.{toldMoved};
+ghost use Rattle.number.specs.Told.{toldI32};
+ghost use Rattle.read.specs.Headers.{countAt, listAt, setAt, mapAt};
+ghost use Rattle.read.specs.Told.{toldList, toldSet, toldMap};
+
+pub struct TListIdentifier {
+    pub element_type: TType,
+    pub size: i32,
+}
+
+pub struct TSetIdentifier {
+    pub element_type: TType,
+    pub size: i32,
+}
+
+pub struct TMapIdentifier {
+    pub key_type: TType,
+    pub value_type: TType,
+    pub size: i32,
+}
+
+pub enum ListRead {
+    Value(TListIdentifier, Cursor),
+    Refused(Refusal),
+}
+
+pub enum SetRead {
+    Value(TSetIdentifier, Cursor),
+    Refused(Refusal),
+}
+
+pub enum MapRead {
+    Value(TMapIdentifier, Cursor),
+    Refused(Refusal),
+}
+
+// A number of elements of at least so many bytes each, as check_container_size in the crate.
+pub(crate) fn read_count(
+    bytes: &[u8],
+    cursor: Cursor,
+    least: usize,
+    config: TConfiguration,
+) -> I32Read
+    requires { ⌜ least ≤ 32 ⌝ }
+    ensures { λ r. ⌜ toldI32 r ≡ countAt config least (now (bytes .entry)) (cursor .at) ⌝ }
+{
+    let at = cursor.at;
+    match text::read_size(bytes, cursor) {
+        I32Read::Value(size, next) => {
+            let container = config.max_container_size;
+            let message = config.max_message_size;
+            let len = number::sign::bits32(size) as usize;
+            if container.exceeded_by(len) {
+                return I32Read::Refused(Refusal {
+                    kind: Kind::ContainerLimit,
+                    place: at,
+                });
+            }
+            if message.exceeded_by(len * least) {
+                return I32Read::Refused(Refusal {
+                    kind: Kind::MessageLimit,
+                    place: at,
+                });
+            }
+            I32Read::Value(size, next)
+        }
+        I32Read::Refused(refusal) => I32Read::Refused(refusal),
+    }
+}
+
+pub fn read_list_begin(bytes: &[u8], cursor: Cursor, config: TConfiguration) -> ListRead
+    ensures { λ r. ⌜ toldList r ≡ listAt config (now (bytes .entry)) (cursor .at) ⌝ }
+{
+    match crate::field::read_type(bytes, cursor) {
+        TypeRead::Value(element_type, next) => {
+            let least = wire::codes::min_serialized_size(element_type);
+            match read_count(bytes, next, least, config) {
+                I32Read::Value(size, end) => {
+                    ListRead::Value(TListIdentifier { element_type, size }, end)
+                }
+                I32Read::Refused(refusal) => ListRead::Refused(refusal),
+            }
+        }
+        TypeRead::Refused(refusal) => ListRead::Refused(refusal),
+    }
+}
+
+pub fn read_list_end(bytes: &[u8], cursor: Cursor) -> Moved
+    ensures { λ r. ⌜ toldMoved r ≡ stayAt (now (bytes .entry)) (cursor .at) ⌝ }
+{
+    cursor.stay(bytes)
+}
+
+// A set is laid out as a list is.
+pub fn read_set_begin(bytes: &[u8], cursor: Cursor, config: TConfiguration) -> SetRead
+    ensures { λ r. ⌜ toldSet r ≡ setAt config (now (bytes .entry)) (cursor .at) ⌝ }
+{
+    match read_list_begin(bytes, cursor, config) {
+        ListRead::Value(list, end) => {
+            let element_type = list.element_type;
+            let size = list.size;
+            SetRead::Value(TSetIdentifier { element_type, size }, end)
+        }
+        ListRead::Refused(refusal) => SetRead::Refused(refusal),
+    }
+}
+
+pub fn read_set_end(bytes: &[u8], cursor: Cursor) -> Moved
+    ensures { λ r. ⌜ toldMoved r ≡ stayAt (now (bytes .entry)) (cursor .at) ⌝ }
+{
+    cursor.stay(bytes)
+}
+
+pub fn read_map_begin(bytes: &[u8], cursor: Cursor, config: TConfiguration) -> MapRead
+    ensures { λ r. ⌜ toldMap r ≡ mapAt config (now (bytes .entry)) (cursor .at) ⌝ }
+{
+    match crate::field::read_type(bytes, cursor) {
+        TypeRead::Value(key_type, value_at) => match crate::field::read_type(bytes, value_at) {
+            TypeRead::Value(value_type, next) => {
+                let key = wire::codes::min_serialized_size(key_type);
+                let value = wire::codes::min_serialized_size(value_type);
+                match read_count(bytes, next, key + value, config) {
+                    I32Read::Value(size, end) => MapRead::Value(
+                        TMapIdentifier {
+                            key_type,
+                            value_type,
+                            size,
+                        },
+                        end,
+                    ),
+                    I32Read::Refused(refusal) => MapRead::Refused(refusal),
+                }
+            }
+            TypeRead::Refused(refusal) => MapRead::Refused(refusal),
+        },
+        TypeRead::Refused(refusal) => MapRead::Refused(refusal),
+    }
+}
+
+pub fn read_map_end(bytes: &[u8], cursor: Cursor) -> Moved
+    ensures { λ r. ⌜ toldMoved r ≡ stayAt (now (bytes .entry)) (cursor .at) ⌝ }
+{
+    cursor.stay(bytes)
+}

@@ -1,0 +1,139 @@
+-- The cases of a size and of a size with its bytes, each from what leads to it. Assumes nothing.
+use Prim.Native.Nat.{ℕ, _<_, _≤_}
+use native.Mathlib.Omega.{arith}
+use borrow.Author.Tests.{lt-ltb, le-ltb}
+use mathlib.Core.Path.{_≡_, refl, sym, _∙_, ap}
+use mathlib.Core.Bool.{true, false}
+use mathlib.Core.List.{List, []}
+use lib.IntN.{ℤ, pos, negsuc, natAbs}
+use mir.Syntax.{w32}
+use mir.Val.{ofZ}
+use lib.Signed.{ltZ}
+use lib.ListN.{length}
+use Rattle.wire.specs.Answer.{Answer, gives, refused, refuseIf, andThen, within}
+use Rattle.wire.proofs.Answers.{first-fault, goes-on, Passed, passed, Went, went}
+use Rattle.number.specs.Reads.{i32At}
+use Rattle.config.specs.Limits.{above}
+use Rattle.config.specs.declared.limit.Limit.{Limit}
+use Rattle.wire.proofs.Within.{inside}
+use Rattle.utf8.specs.UpTo.{upTo}
+use Rattle.text.specs.declared.Span.{Span}
+use Rattle.text.specs.Texts.{span, bytesIn, sizeAt, sizedAt, bytesAt, stringAt, uuidAt, partIn, partOf}
+
+plain : (v : ℤ) → ltZ v (pos 0) ≡ false → ofZ w32 v ≡ natAbs v
+plain (pos n) h = refl
+plain (negsuc n) h = cc
+
+module _ (s : List ℕ) (at : ℕ) where
+  pub no-size : {n p : ℕ} → refused n p ≡ i32At s at → refused n p ≡ sizeAt s at
+  unfolding sizeAt
+  no-size e = first-fault _ e
+
+  module _ {v : ℤ} {next : ℕ} (e : gives v next ≡ i32At s at) where
+    pub negative : ltZ v (pos 0) ≡ true → refused 6 at ≡ sizeAt s at
+    unfolding sizeAt andThen refuseIf
+    negative h = rw (← e, h)
+
+    pub size : ltZ v (pos 0) ≡ false → gives v next ≡ sizeAt s at
+    unfolding sizeAt andThen refuseIf
+    size h = rw (← e, h)
+
+  -- a size that was read is not negative, so its bits are the number itself
+  pub size-bits : {v : ℤ} {next : ℕ} → gives v next ≡ sizeAt s at → ofZ w32 v ≡ natAbs v
+  unfolding sizeAt
+  size-bits {v} {next} e =
+      let a = went (i32At s at) _ e in
+      let b = passed (ltZ (a .value) (pos 0)) 6 at (gives (a .value) (a .place)) (a .on) in
+      let same : v ≡ a .value = cc (b .gave) in
+      plain v (rw same (b .test))
+
+module _ (over : ℕ) (limit : Limit) (s : List ℕ) (at : ℕ) where
+  pub unsized : {n p : ℕ} → refused n p ≡ sizeAt s at → refused n p ≡ sizedAt over limit s at
+  unfolding sizedAt
+  unsized e = first-fault _ e
+
+  module _ {v : ℤ} {body : ℕ} (e : gives v body ≡ sizeAt s at) where
+    pub too-long : above (natAbs v) limit ≡ true → refused over at ≡ sizedAt over limit s at
+    unfolding sizedAt andThen refuseIf
+    too-long h = rw (← e, h)
+
+    module _ (h : above (natAbs v) limit ≡ false) where
+      pub cut : {n p : ℕ} → refused n p ≡ within s body (natAbs v) → refused n p ≡ sizedAt over limit s at
+      unfolding sizedAt andThen refuseIf
+      cut f = rw (← e, h, ← f)
+
+      pub whole : {end : ℕ} → gives tt end ≡ within s body (natAbs v) → gives (span body end) end ≡ sizedAt over limit s at
+      unfolding sizedAt andThen refuseIf
+      whole f = rw (← e, h, ← f)
+
+-- a span inside so many bytes
+pub record Lies (n : ℕ) (p : Span) : Type 0 where
+  pub ordered : p .start ≤ p .end
+  pub inside-them : p .end ≤ n
+
+-- so many bytes from a place on
+lies : (s : List ℕ) (at w : ℕ) {next : ℕ} → gives tt next ≡ within s at w → Lies (length s) (span at next)
+lies s at w e = let i = inside s at w e in record { ordered = omega arith; inside-them = omega arith }
+
+pub sized-lies : (over : ℕ) (limit : Limit) (s : List ℕ) (at : ℕ) {p : Span} {q : ℕ} → gives p q ≡ sizedAt over limit s at → Lies (length s) p
+unfolding sizedAt
+sized-lies over limit s at {p} {q} e =
+    let a = went (sizeAt s at) _ e in
+    let b = passed (above (natAbs (a .value)) limit) over at _ (a .on) in
+    let c = went (within s (a .place) (natAbs (a .value))) _ (b .gave) in
+    let same : p ≡ span (a .place) (c .place) = cc (c .on) in
+    rw same (lies s (a .place) (natAbs (a .value)) (c .gave))
+
+module _ (limit : Limit) (s : List ℕ) (at : ℕ) where
+  pub no-text : {n p : ℕ} → refused n p ≡ bytesAt limit s at → refused n p ≡ stringAt limit s at
+  unfolding stringAt
+  no-text e = first-fault _ e
+
+  module _ {p : Span} {next : ℕ} (e : gives p next ≡ bytesAt limit s at) where
+    pub not-utf8 : upTo (bytesIn s p) < length (bytesIn s p) → refused 13 (p .start) ≡ stringAt limit s at
+    unfolding stringAt andThen refuseIf
+    not-utf8 h = rw (← e, lt-ltb _ _ h)
+
+    pub string : length (bytesIn s p) ≤ upTo (bytesIn s p) → gives p next ≡ stringAt limit s at
+    unfolding stringAt andThen refuseIf
+    string h = rw (← e, le-ltb _ _ h)
+
+pub string-lies : (limit : Limit) (s : List ℕ) (at : ℕ) {p : Span} {q : ℕ} → gives p q ≡ stringAt limit s at → Lies (length s) p
+unfolding stringAt
+string-lies limit s at e =
+    let a = went (bytesAt limit s at) _ e in
+    let b = passed _ 13 (a .value .start) (gives (a .value) (a .place)) (a .on) in
+    sized-lies 7 limit s at (b .gave ∙ a .gave)
+
+module _ (s : List ℕ) (at : ℕ) where
+  pub uuid-cut : {n p : ℕ} → refused n p ≡ within s at 16 → refused n p ≡ uuidAt s at
+  unfolding uuidAt
+  uuid-cut e = first-fault _ e
+
+  pub uuid : {end : ℕ} → gives tt end ≡ within s at 16 → gives (span at end) end ≡ uuidAt s at
+  unfolding uuidAt
+  uuid e = goes-on _ e
+
+pub uuid-lies : (s : List ℕ) (at : ℕ) {p : Span} {q : ℕ} → gives p q ≡ uuidAt s at → Lies (length s) p
+unfolding uuidAt
+uuid-lies s at {p} {q} e =
+    let a = went (within s at 16) _ e in
+    let same : p ≡ span at (a .place) = cc (a .on) in
+    rw same (lies s at 16 (a .gave))
+
+-- the part of a span, and the part that a read hands out
+module _ (s : List ℕ) (p : Span) where
+  pub part-unordered : p .end < p .start → [] ≡ partIn s p
+  unfolding partIn
+  part-unordered h = simp (lt-ltb _ _ h)
+
+  pub part-outside : p .start ≤ p .end → length s < p .end → [] ≡ partIn s p
+  unfolding partIn
+  part-outside h i = simp (le-ltb _ _ h, lt-ltb _ _ i)
+
+  pub part-inside : p .start ≤ p .end → p .end ≤ length s → bytesIn s p ≡ partIn s p
+  unfolding partIn
+  part-inside h i = simp (le-ltb _ _ h, le-ltb _ _ i)
+
+pub handed : (s : List ℕ) {p : Span} {q : ℕ} {m : Answer Span} {r : List ℕ} → Lies (length s) p → gives p q ≡ m → r ≡ partIn s p → r ≡ partOf s m
+handed s {p} l e h = h ∙ sym (part-inside s p (l .ordered) (l .inside-them)) ∙ ap (partOf s) e

@@ -1,0 +1,21 @@
+-- Assumes nothing.
+use borrow.Author.Needs.{needs}
+use mathlib.Core.Path.{ap}
+use Rattle.wire.proofs.Answers.{told-as}
+use Rattle.text.specs.Texts.{partOf}
+use Rattle.text.specs.Told.{toldText}
+use Rattle.text.proofs.Texts.{handed, sized-lies}
+use Rattle.text.proofs.bytes_part.Statement.{statement}
+use Rattle.text.proofs.bytes_part.Tie as tie
+
+pub bytes-part-spec : {M : Type 1} → statement M
+bytes-part-spec =
+    tie.close
+    (tie.spec
+    (λ c κs. search needs)
+    (λ c. search needs)
+    (λ c κs. search needs)
+    (λ c. search needs)
+    (λ c. search needs)
+    (λ c. handed _ (sized-lies 7 _ _ _ (told-as toldText (c .before .before .span .given .1) (c .before .before .before .before .read-bytes .ensures))) (told-as toldText (c .before .before .span .given .1) (c .before .before .before .before .read-bytes .ensures)) (c .part .ensures))
+    (λ c. ap (partOf _) (told-as toldText (c .before .enum-told .given .1) (c .before .before .before .read-bytes .ensures))))

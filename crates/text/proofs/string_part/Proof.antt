@@ -1,0 +1,21 @@
+-- Assumes nothing.
+use borrow.Author.Needs.{needs}
+use mathlib.Core.Path.{ap}
+use Rattle.wire.proofs.Answers.{told-as}
+use Rattle.text.specs.Texts.{partOf}
+use Rattle.text.specs.Told.{toldText}
+use Rattle.text.proofs.Texts.{handed, string-lies}
+use Rattle.text.proofs.string_part.Statement.{statement}
+use Rattle.text.proofs.string_part.Tie as tie
+
+pub string-part-spec : {M : Type 1} → statement M
+string-part-spec =
+    tie.close
+    (tie.spec
+    (λ c κs. search needs)
+    (λ c. search needs)
+    (λ c κs. search needs)
+    (λ c. search needs)
+    (λ c. search needs)
+    (λ c. handed _ (string-lies _ _ _ (told-as toldText (c .before .before .span .given .1) (c .before .before .before .before .read-string .ensures))) (told-as toldText (c .before .before .span .given .1) (c .before .before .before .before .read-string .ensures)) (c .part .ensures))
+    (λ c. ap (partOf _) (told-as toldText (c .before .enum-told .given .1) (c .before .before .before .read-string .ensures))))

@@ -1,0 +1,59 @@
+-- Texts: "32-bit length; 1, 6, 7, then body 1. Names and strings then 13; bytes don't."
+use Prim.Native.Nat.{ℕ, _-_}
+use mathlib.Core.Bool.{cond}
+use mathlib.Core.List.{List, []}
+use lib.Dec.{ltb}
+use lib.ListN.{length, take, drop}
+use lib.IntN.{ℤ, pos, natAbs}
+use lib.Signed.{ltZ}
+use Rattle.wire.specs.Answer.{Answer, gives, refused, refuseIf, andThen, within}
+use Rattle.number.specs.Reads.{i32At}
+use Rattle.config.specs.Limits.{above}
+use Rattle.config.specs.declared.limit.Limit.{Limit}
+use Rattle.utf8.specs.UpTo.{upTo}
+use Rattle.text.specs.declared.Span.{Span}
+
+abbrev pub span : ℕ → ℕ → Span
+span a e = record { start = a; end = e }
+
+-- a size of 32 bits: 1, then 6 where it is negative
+unfoldable pub sizeAt : List ℕ → ℕ → Answer ℤ
+sizeAt s at =
+    andThen (i32At s at) λ size next.
+    refuseIf (ltZ size (pos 0)) 6 at (gives size next)
+
+-- A size, then as many bytes: above the limit it is refused by the number given, at the size. What is given is where the bytes stand
+unfoldable pub sizedAt : ℕ → Limit → List ℕ → ℕ → Answer Span
+sizedAt over limit s at =
+    andThen (sizeAt s at) λ size body.
+    refuseIf (above (natAbs size) limit) over at
+    (andThen (within s body (natAbs size)) λ _ end.
+    gives (span body end) end)
+
+-- the bytes that stand in a span
+abbrev pub bytesIn : List ℕ → Span → List ℕ
+bytesIn s p = take (p .end - p .start) (drop (p .start) s)
+
+-- bytes: no more than that, with 7 for the limit
+abbrev pub bytesAt : Limit → List ℕ → ℕ → Answer Span
+bytesAt = sizedAt 7
+
+-- names and strings: then 13, at the text's first byte, where it is not UTF-8 to its end
+unfoldable pub stringAt : Limit → List ℕ → ℕ → Answer Span
+stringAt limit s at =
+    andThen (bytesAt limit s at) λ text next.
+    refuseIf (ltb (upTo (bytesIn s text)) (length (bytesIn s text))) 13 (text .start)
+    (gives text next)
+
+-- a UUID: sixteen bytes, one item
+unfoldable pub uuidAt : List ℕ → ℕ → Answer Span
+uuidAt s at = andThen (within s at 16) λ _ end. gives (span at end) end
+
+-- the part that a span marks, none where it does not lie inside
+unfoldable pub partIn : List ℕ → Span → List ℕ
+partIn s p = cond (ltb (p .end) (p .start)) [] (cond (ltb (length s) (p .end)) [] (bytesIn s p))
+
+-- the part that a read hands out: the bytes that it found, none where it refuses
+abbrev pub partOf : List ℕ → Answer Span → List ℕ
+partOf s (gives p next) = bytesIn s p
+partOf s (refused n p) = []

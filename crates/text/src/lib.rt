@@ -1,0 +1,155 @@
+// A size, then as many bytes: texts, names and frames are read here, and their bytes handed out.
+use config::configuration::TConfiguration;
+use config::limit::Limit;
+use number::I32Read;
+use wire::cursor::Cursor;
+use wire::cursor::Moved;
+use wire::refusal::Kind;
+use wire::refusal::Refusal;
+ghost use mathlib.Core.Path.{_≡_};
+ghost use Rattle.wire.specs.Refusals.{kindNumber};
+ghost use Rattle.number.specs.Told.{toldI32};
+ghost use Rattle.text.specs.Texts.{sizeAt, sizedAt, bytesAt, stringAt, uuidAt, partIn, partOf};
+ghost use Rattle.text.specs.Told.{toldText};
+
+// From its first byte up to the one after its last.
+pub struct Span {
+    pub start: usize,
+    pub end: usize,
+}
+
+pub enum TextRead {
+    Value(Span, Cursor),
+    Refused(Refusal),
+}
+
+// A 32-bit size, which must not be negative.
+pub fn read_size(bytes: &[u8], cursor: Cursor) -> I32Read
+    ensures { λ r. ⌜ toldI32 r ≡ sizeAt (now (bytes .entry)) (cursor .at) ⌝ }
+{
+    let at = cursor.at;
+    match number::read_i32(bytes, cursor) {
+        I32Read::Value(size, next) => {
+            if size < 0 {
+                return I32Read::Refused(Refusal {
+                    kind: Kind::NegativeSize,
+                    place: at,
+                });
+            }
+            I32Read::Value(size, next)
+        }
+        I32Read::Refused(refusal) => I32Read::Refused(refusal),
+    }
+}
+
+// A size, then as many bytes; a size above the limit is refused as the kind given.
+pub fn read_sized(bytes: &[u8], cursor: Cursor, limit: Limit, over: Kind) -> TextRead
+    ensures { λ r. ⌜ toldText r ≡ sizedAt (kindNumber over) limit (now (bytes .entry)) (cursor .at) ⌝ }
+{
+    let at = cursor.at;
+    match read_size(bytes, cursor) {
+        I32Read::Value(size, body) => {
+            let len = number::sign::bits32(size) as usize;
+            if limit.exceeded_by(len) {
+                return TextRead::Refused(Refusal {
+                    kind: over,
+                    place: at,
+                });
+            }
+            let start = body.at;
+            match body.past(bytes, len) {
+                Moved::To(next) => {
+                    let end = next.at;
+                    TextRead::Value(Span { start, end }, next)
+                }
+                Moved::Refused(refusal) => TextRead::Refused(refusal),
+            }
+        }
+        I32Read::Refused(refusal) => TextRead::Refused(refusal),
+    }
+}
+
+// Bytes: no check of what they are.
+pub fn read_bytes(bytes: &[u8], cursor: Cursor, config: TConfiguration) -> TextRead
+    ensures { λ r. ⌜ toldText r ≡ bytesAt (config .«max_string_size») (now (bytes .entry)) (cursor .at) ⌝ }
+{
+    let limit = config.max_string_size;
+    read_sized(bytes, cursor, limit, Kind::StringLimit)
+}
+
+// A string or a name, which must be UTF-8.
+pub fn read_string(bytes: &[u8], cursor: Cursor, config: TConfiguration) -> TextRead
+    ensures { λ r. ⌜ toldText r ≡ stringAt (config .«max_string_size») (now (bytes .entry)) (cursor .at) ⌝ }
+{
+    match read_bytes(bytes, cursor, config) {
+        TextRead::Value(span, next) => {
+            let start = span.start;
+            let end = span.end;
+            let text = &bytes[start..end];
+            if utf8::valid_up_to(text) < text.len() {
+                return TextRead::Refused(Refusal {
+                    kind: Kind::NotUtf8,
+                    place: start,
+                });
+            }
+            TextRead::Value(span, next)
+        }
+        TextRead::Refused(refusal) => TextRead::Refused(refusal),
+    }
+}
+
+// A UUID: sixteen bytes, one item.
+pub fn read_uuid(bytes: &[u8], cursor: Cursor) -> TextRead
+    ensures { λ r. ⌜ toldText r ≡ uuidAt (now (bytes .entry)) (cursor .at) ⌝ }
+{
+    let start = cursor.at;
+    match cursor.past(bytes, 16) {
+        Moved::To(next) => {
+            let end = next.at;
+            TextRead::Value(Span { start, end }, next)
+        }
+        Moved::Refused(refusal) => TextRead::Refused(refusal),
+    }
+}
+
+// The very bytes in a span, none where it does not lie inside.
+pub fn part(bytes: &[u8], span: Span) -> &[u8]
+    ensures { λ r. ⌜ now r ≡ partIn (now (bytes .entry)) span ⌝ }
+{
+    let start = span.start;
+    let end = span.end;
+    if end < start {
+        return &bytes[..0];
+    }
+    if bytes.len() < end {
+        return &bytes[..0];
+    }
+    &bytes[start..end]
+}
+
+pub fn bytes_part(bytes: &[u8], cursor: Cursor, config: TConfiguration) -> &[u8]
+    ensures { λ r. ⌜ now r ≡ partOf (now (bytes .entry)) (bytesAt (config .«max_string_size») (now (bytes .entry)) (cursor .at)) ⌝ }
+{
+    match read_bytes(bytes, cursor, config) {
+        TextRead::Value(span, _) => part(bytes, span),
+        TextRead::Refused(_) => &bytes[..0],
+    }
+}
+
+pub fn string_part(bytes: &[u8], cursor: Cursor, config: TConfiguration) -> &[u8]
+    ensures { λ r. ⌜ now r ≡ partOf (now (bytes .entry)) (stringAt (config .«max_string_size») (now (bytes .entry)) (cursor .at)) ⌝ }
+{
+    match read_string(bytes, cursor, config) {
+        TextRead::Value(span, _) => part(bytes, span),
+        TextRead::Refused(_) => &bytes[..0],
+    }
+}
+
+pub fn uuid_part(bytes: &[u8], cursor: Cursor) -> &[u8]
+    ensures { λ r. ⌜ now r ≡ partOf (now (bytes .entry)) (uuidAt (now (bytes .entry)) (cursor .at)) ⌝ }
+{
+    match read_uuid(bytes, cursor) {
+        TextRead::Value(span, _) => part(bytes, span),
+        TextRead::Refused(_) => &bytes[..0],
+    }
+}
