@@ -2,11 +2,15 @@
 use mathlib.Core.Path.{_≡_, refl, sym, _∙_, ap}
 use mathlib.Core.List.{List, [], _∷_, _++_, append-assoc}
 use Prim.Native.Nat.{ℕ, zero, suc, _+_, _*_, _/_, _%_, _^_, _<_, _≤_}
-use native.Mathlib.Nat.{mod-one, pow-suc, pow-zero, add-zero, zero-add, add-assoc, mul-assoc, mul-one, add-mul}
+use native.Mathlib.Nat.{mod-eq-of-lt, mod-one, pow-suc, pow-zero, add-zero, zero-add, add-assoc, mul-assoc, mul-one, add-mul}
 use native.Mathlib.Numerals.{add-one}
 use native.Mathlib.Omega.{arith}
 use lib.Arith.{mod-mul}
 use lib.Dec.{lit<}
+use lib.IntN.{ℤ}
+use mir.Syntax.{Width}
+use mir.Val.{SFits, bits, toZ, ofZ}
+use mir.Facts.{fits-ofZ, toZ-ofZ}
 use lib.ListN.{length, getD, take, drop, length-append, length-drop}
 use lib.Seq.{take-suc, getD-drop}
 use Rattle.wire.specs.Answer.{Answer, gives, refused, andThen, within, itemAt}
@@ -60,6 +64,34 @@ unfolding big bytesOf
 written zero n = sym (mod-one n)
 written (suc w) n =
     rw (big-snoc (bytesOf w (n / 256)) (n % 256), written w (n / 256), pow-suc 256 w, mod-mul n (powers w) (lit< tt))
+
+-- a signed number comes back with its sign, at any width whose bits are the bytes'
+pub signed-written : (w : ℕ) (k : Width) (v : ℤ) → 256 ^ w ≡ 2 ^ bits k → SFits k v → toZ k (big (bytesOf w (ofZ k v))) ≡ v
+signed-written w k v e f =
+    ap (toZ k) (written w (ofZ k v) ∙ ap (λ (m : ℕ). ofZ k v % m) e ∙ mod-eq-of-lt (fits-ofZ f .fits)) ∙ toZ-ofZ f
+
+-- each is a byte
+abbrev pub Octets : List ℕ → Type 0
+Octets s = (i : ℕ) → getD s i 0 < 256
+
+-- and what is read is written so
+pub read-written : (w : ℕ) (s : List ℕ) (at : ℕ) → Octets s → at + w ≤ length s → bytesOf w (big (take w (drop at s))) ≡ take w (drop at s)
+unfolding bytesOf
+read-written zero s at o h = refl
+read-written (suc w) s at o h =
+    let b = getD s (at + w) 0 in
+    let n = big (take w (drop at s)) in
+    let small : b < 256 = o (at + w) in
+    let up : (n * 256 + b) / 256 ≡ n = omega arith in
+    let down : (n * 256 + b) % 256 ≡ b = omega arith in
+    rw (
+      take-suc (drop at s) w 0 (rw (length-drop at s) (omega arith)),
+      big-snoc (take w (drop at s)) (getD (drop at s) w 0),
+      getD-drop at s w 0,
+      up,
+      down,
+      read-written w s at o (omega arith),
+    )
 
 -- a number that is read: the two ways out of every read of this crate
 module _ {A : Type 0} (w : ℕ) (f : ℕ → A) (s : List ℕ) (at : ℕ) where

@@ -2,3 +2,4 @@
 pub mod Answer
 pub mod Codes
 pub mod Refusals
+pub mod Shapes

@@ -2,3 +2,4 @@
 pub mod codes;
 pub mod cursor;
 pub mod refusal;
+pub mod shape;

@@ -1,0 +1,223 @@
+-- The cycle of calls. A value's skip calls those of a struct, a list and a map at the same depth, and they call it at the depth less one: so the
+-- measures are twice the depth, and one more for a value's. Assumes nothing.
+use mathlib.Core.Path.{_≡_, refl, sym, ap, subst, _∙_}
+use Prim.Native.Nat.{ℕ, _+_, _-_, _<_}
+use lib.IntN.{ℤ, natAbs}
+use lib.ListN.{length}
+use mir.Syntax.{w32}
+use mir.Val.{toZ, ofZ}
+use native.Mathlib.Omega.{arith}
+use borrow.Author.Needs.{needs}
+use Rattle.wire.proofs.Answers.{told-as}
+use Rattle.read.specs.Told.{toldField, toldList, toldMap, toldDepth}
+use Rattle.skip.specs.Told.{toldWalked}
+use Rattle.tree.proofs.Steps as steps
+use Rattle.tree.proofs.Bounds.{stands-count, cut-small}
+use Rattle.skip.proofs.Sizes.{list-bits, map-bits}
+use Rattle.wire.specs.Shapes.{shapeOf}
+use Rattle.tree.specs.Answers.{judged}
+use Rattle.tree.proofs.Parts.{part-length}
+use Rattle.tree.proofs.Heads.{field-is, struct-is}
+use Rattle.wire.specs.declared.shape.Shape.the-variants as Sh
+use Rattle.skip.proofs.Leaves.{fixed-some, fixed-answers, text-answers, unfit-answers, deep-answers, shape-answers}
+use Prim.Native.Nat.{ℕ, _<_}
+use borrow.Fn.Kinds.{In}
+use borrow.Fn.PlainCycle.{Measures, is, falls, and}
+use Rattle.skip.proofs.value.skip_list.Reads as skip-list
+use Rattle.skip.proofs.value.skip_list.Kinds as skip-list-kinds
+use Rattle.skip.proofs.value.+skip_list+skip_map+skip_struct+skip_value.Lts-skip_list as skip-list-lts
+use Rattle.skip.proofs.value.skip_map.Reads as skip-map
+use Rattle.skip.proofs.value.skip_map.Kinds as skip-map-kinds
+use Rattle.skip.proofs.value.+skip_list+skip_map+skip_struct+skip_value.Lts-skip_map as skip-map-lts
+use Rattle.skip.proofs.value.skip_struct.Reads as skip-struct
+use Rattle.skip.proofs.value.skip_struct.Kinds as skip-struct-kinds
+use Rattle.skip.proofs.value.+skip_list+skip_map+skip_struct+skip_value.Lts-skip_struct as skip-struct-lts
+use Rattle.skip.proofs.value.skip_value.Reads as skip-value
+use Rattle.skip.proofs.value.skip_value.Kinds as skip-value-kinds
+use Rattle.skip.proofs.value.+skip_list+skip_map+skip_struct+skip_value.Lts-skip_value as skip-value-lts
+use Rattle.number.proofs.sign.bits32.Reads as bits32-reads
+use Rattle.read.proofs.container.read_list_begin.Reads as read-list-begin-reads
+use Rattle.read.proofs.container.read_map_begin.Reads as read-map-begin-reads
+use Rattle.read.proofs.field.read_field_begin.Reads as read-field-begin-reads
+use Rattle.read.proofs.structs.read_struct_begin.Reads as read-struct-begin-reads
+use Rattle.skip.proofs.value.refused.Reads as refused-reads
+use Rattle.skip.proofs.value.skip_fixed.Reads as skip-fixed-reads
+use Rattle.skip.proofs.value.skip_text.Reads as skip-text-reads
+use Rattle.wire.proofs.codes.TType.is_stop.Reads as is-stop-reads
+use Rattle.wire.proofs.shape.shape_of.Reads as shape-of-reads
+use Rattle.skip.proofs.value.+skip_list+skip_map+skip_struct+skip_value.{statement}
+use Rattle.skip.proofs.value.+skip_list+skip_map+skip_struct+skip_value.Tie.{close}
+
+abbrev μ-skip-list : Measures 1 skip-list-kinds.ps ℕ
+μ-skip-list κs a = a .1 .1 .0 + a .1 .1 .0
+
+abbrev μ-skip-map : Measures 1 skip-map-kinds.ps ℕ
+μ-skip-map κs a = a .1 .1 .0 + a .1 .1 .0
+
+abbrev μ-skip-struct : Measures 1 skip-struct-kinds.ps ℕ
+μ-skip-struct κs a = a .1 .1 .0 + a .1 .1 .0
+
+abbrev μ-skip-value : Measures 1 skip-value-kinds.ps ℕ
+μ-skip-value κs a = a .1 .1 .1 .0 + a .1 .1 .1 .0 + 1
+
+abbrev skip-list-at : ℕ → In 1 skip-list-kinds.ps
+skip-list-at t = and 1 skip-list-kinds.ps (is 1 skip-list-kinds.ps μ-skip-list t) skip-list.Pre
+
+abbrev skip-list-below : ℕ → In 1 skip-list-kinds.ps
+skip-list-below t =
+    and 1 skip-list-kinds.ps (falls 1 skip-list-kinds.ps _<_ μ-skip-list t) skip-list.Pre
+
+abbrev skip-map-at : ℕ → In 1 skip-map-kinds.ps
+skip-map-at t = and 1 skip-map-kinds.ps (is 1 skip-map-kinds.ps μ-skip-map t) skip-map.Pre
+
+abbrev skip-map-below : ℕ → In 1 skip-map-kinds.ps
+skip-map-below t =
+    and 1 skip-map-kinds.ps (falls 1 skip-map-kinds.ps _<_ μ-skip-map t) skip-map.Pre
+
+abbrev skip-struct-at : ℕ → In 1 skip-struct-kinds.ps
+skip-struct-at t =
+    and 1 skip-struct-kinds.ps (is 1 skip-struct-kinds.ps μ-skip-struct t) skip-struct.Pre
+
+abbrev skip-struct-below : ℕ → In 1 skip-struct-kinds.ps
+skip-struct-below t =
+    and 1 skip-struct-kinds.ps (falls 1 skip-struct-kinds.ps _<_ μ-skip-struct t) skip-struct.Pre
+
+abbrev skip-value-at : ℕ → In 1 skip-value-kinds.ps
+skip-value-at t =
+    and 1 skip-value-kinds.ps (is 1 skip-value-kinds.ps μ-skip-value t) skip-value.Pre
+
+abbrev skip-value-below : ℕ → In 1 skip-value-kinds.ps
+skip-value-below t =
+    and 1 skip-value-kinds.ps (falls 1 skip-value-kinds.ps _<_ μ-skip-value t) skip-value.Pre
+
+abbrev skip-list-claims : ℕ → skip-list-lts.Claims
+skip-list-claims t = (read-list-begin-reads.Asked, read-list-begin-reads.Learnt, bits32-reads.Asked, bits32-reads.Learnt, skip-value-below t, skip-value.Post)
+
+abbrev skip-map-claims : ℕ → skip-map-lts.Claims
+skip-map-claims t = (read-map-begin-reads.Asked, read-map-begin-reads.Learnt, bits32-reads.Asked, bits32-reads.Learnt, skip-value-below t, skip-value.Post)
+
+abbrev skip-struct-claims : ℕ → skip-struct-lts.Claims
+skip-struct-claims t = (read-struct-begin-reads.Asked, read-struct-begin-reads.Learnt, read-field-begin-reads.Asked, read-field-begin-reads.Learnt, is-stop-reads.Asked, is-stop-reads.Learnt, skip-value-below t, skip-value.Post)
+
+abbrev skip-value-claims : ℕ → skip-value-lts.Claims
+skip-value-claims t = (refused-reads.Asked, refused-reads.Learnt, shape-of-reads.Asked, shape-of-reads.Learnt, skip-fixed-reads.Asked, skip-fixed-reads.Learnt, skip-text-reads.Asked, skip-text-reads.Learnt, skip-struct-below t, skip-struct.Post, skip-list-below t, skip-list.Post, skip-map-below t, skip-map.Post)
+
+abbrev skip-list-Inv-loop : skip-list-lts.InvT-loop
+skip-list-Inv-loop bytes start depth struct-depth config element-type size len at₀ count₀ i₀ at count i =
+    steps.ListLoop config bytes start depth struct-depth element-type (toZ w32 size) at₀ at count i × (len ≡ natAbs (toZ w32 size))
+
+abbrev skip-list-μ-loop : skip-list-lts.MeasureT-loop
+skip-list-μ-loop bytes start depth struct-depth config element-type size len at₀ count₀ i₀ at count i = len - i
+
+abbrev skip-map-Inv-loop : skip-map-lts.InvT-loop
+skip-map-Inv-loop bytes start depth struct-depth config key-type value-type size len at₀ count₀ i₀ at count i =
+    steps.MapLoop config bytes start depth struct-depth key-type value-type (toZ w32 size) at₀ at count i × (len ≡ natAbs (toZ w32 size))
+
+abbrev skip-map-μ-loop : skip-map-lts.MeasureT-loop
+skip-map-μ-loop bytes start depth struct-depth config key-type value-type size len at₀ count₀ i₀ at count i = len - i
+
+abbrev skip-struct-Inv-loop : skip-struct-lts.InvT-loop
+skip-struct-Inv-loop bytes start depth struct-depth config inner at₀ count₀ at count =
+    steps.StructLoop config bytes start depth struct-depth at count × (inner ≡ struct-depth + 1)
+
+abbrev skip-struct-μ-loop : skip-struct-lts.MeasureT-loop
+skip-struct-μ-loop bytes start depth struct-depth config inner at₀ count₀ at count = length bytes - at
+
+pub +skip-list+skip-map+skip-struct+skip-value-spec : {M : Type 1} → statement M
++skip-list+skip-map+skip-struct+skip-value-spec =
+    close μ-skip-list μ-skip-map μ-skip-struct μ-skip-value
+    (λ t. skip-list-lts.spec (skip-list-claims t) (skip-list-at t) skip-list.Post
+    skip-list-Inv-loop
+    skip-list-μ-loop
+    (λ c κs. search needs)
+    (λ c. search needs)
+    (λ c κs. search needs)
+    (λ c. search needs)
+    (λ c. let same : toZ w32 (ofZ w32 (c .before .before .before .list .given .0 .0 .size)) ≡ c .before .before .before .list .given .0 .0 .size = search needs in rw same (steps.list-start _ _ _ _ _ (λ i. c .before .before .before .before .before .before .shared-slice-known .given i .fits) (c .before .before .before .before .before .before .before .pre .1) (told-as toldList (c .before .before .before .list .given .1) (c .before .before .before .before .before .read-list-begin .ensures)), c .bits32 .ensures ∙ ap (ofZ w32) same ∙ list-bits _ _ _ (told-as toldList (c .before .before .before .list .given .1) (c .before .before .before .before .before .read-list-begin .ensures))))
+    (λ c. omega (arith, c .before .loop .inv .0 .deep))
+    (λ c κs. (omega (arith, c .before .before .before .before .before .before .before .before .before .pre .0, c .before .loop .inv .0 .deep), tt))
+    (λ c. search needs)
+    (λ c. let v = (rw (c .before .next .given .1) at (c .before .before .before .skip-value .ensures)) in let h = stands-count _ _ _ _ _ _ _ _ v in let r = steps.list-room _ _ _ _ _ (c .before .before .before .before .before .loop .inv .0) in omega (arith, h .1, r .0, v .part .within, c .before .before .before .before .before .before .before .before .before .before .before .before .before .good .0))
+    (λ c. search needs)
+    (λ c. let r = steps.list-room _ _ _ _ _ (c .before .before .before .before .before .loop .inv .0) in let h = cut-small _ _ _ _ _ _ _ _ _ (r .1) (rw (c .before .refusal .given .1) at (c .before .before .before .skip-value .ensures)) in omega (arith, h, r .0, c .before .before .before .before .before .before .before .before .before .before .before .before .before .good .0))
+    (λ c. steps.list-cut _ _ _ _ _ (c .before .before .before .before .before .loop .inv .0) (rw (c .before .before .before .before .before .loop .inv .1) at (c .before .before .before .before .loop-test .taken)) (rw (c .before .refusal .given .1) at (c .before .before .before .skip-value .ensures)))
+    (λ c. omega (arith, c .before .before .before .before .loop-test .taken, c .before .before .before .before .before .before .bits32 .ok))
+    (λ c. omega (arith, c .before .before .before .before .loop-test .taken))
+    (λ c. (steps.list-more _ _ _ _ _ (c .before .before .before .before .before .loop .inv .0) (rw (c .before .before .before .before .before .loop .inv .1) at (c .before .before .before .before .loop-test .taken)) (rw (c .before .next .given .1) at (c .before .before .before .skip-value .ensures)), c .before .before .before .before .before .loop .inv .1))
+    (λ c. search needs)
+    (λ c. steps.list-stands _ _ _ _ _ (λ i. c .before .before .before .before .before .before .before .before .shared-slice-known .given i .fits) (c .before .loop .inv .0) (rw (c .before .loop .inv .1) at (c .loop-test .left)))
+    (λ c. steps.own-refused _ _ _ _ _ Sh.Items _ _ (λ z. omega (arith, c .before .before .before .before .before .pre .1)) (ap judged (told-as toldList (c .before .refusal2 .given .1) (c .before .before .before .read-list-begin .ensures)))))
+    (λ t. skip-map-lts.spec (skip-map-claims t) (skip-map-at t) skip-map.Post
+    skip-map-Inv-loop
+    skip-map-μ-loop
+    (λ c κs. search needs)
+    (λ c. search needs)
+    (λ c κs. search needs)
+    (λ c. search needs)
+    (λ c. let same : toZ w32 (ofZ w32 (c .before .before .before .map .given .0 .0 .size)) ≡ c .before .before .before .map .given .0 .0 .size = search needs in rw same (steps.map-start _ _ _ _ _ (λ i. c .before .before .before .before .before .before .shared-slice-known .given i .fits) (c .before .before .before .before .before .before .before .pre .1) (told-as toldMap (c .before .before .before .map .given .1) (c .before .before .before .before .before .read-map-begin .ensures)), c .bits32 .ensures ∙ ap (ofZ w32) same ∙ map-bits _ _ _ (told-as toldMap (c .before .before .before .map .given .1) (c .before .before .before .before .before .read-map-begin .ensures))))
+    (λ c. omega (arith, c .before .loop .inv .0 .deep))
+    (λ c κs. (omega (arith, c .before .before .before .before .before .before .before .before .before .pre .0, c .before .loop .inv .0 .deep), tt))
+    (λ c. search needs)
+    (λ c. omega (arith, c .before .before .before .before .before .loop .inv .0 .deep))
+    (λ c κs. (omega (arith, c .before .before .before .before .before .before .before .before .before .before .before .before .before .pre .0, c .before .before .before .before .before .loop .inv .0 .deep), tt))
+    (λ c. search needs)
+    (λ c. let k = (rw (c .before .before .before .before .before .mid .given .1) at (c .before .before .before .before .before .before .before .skip-value .ensures)) in let h = stands-count _ _ _ _ _ _ _ _ k in let r = steps.map-room _ _ _ _ _ (c .before .before .before .before .before .before .before .before .before .loop .inv .0) in omega (arith, h .1, r .0, k .part .within, c .before .before .before .before .before .before .before .before .before .before .before .before .before .before .before .before .before .good .0))
+    (λ c. let k = (rw (c .before .before .before .before .before .mid .given .1) at (c .before .before .before .before .before .before .before .skip-value .ensures)) in let v = (rw (c .before .next .given .1) at (c .before .before .before .skip-value2 .ensures)) in let g = stands-count _ _ _ _ _ _ _ _ k in let h = stands-count _ _ _ _ _ _ _ _ v in let r = steps.map-room _ _ _ _ _ (c .before .before .before .before .before .before .before .before .before .loop .inv .0) in omega (arith, g .1, h .1, r .0, v .part .within, c .before .before .before .before .before .before .before .before .before .before .before .before .before .before .before .before .before .good .0))
+    (λ c. search needs)
+    (λ c. let k = (rw (c .before .before .before .before .before .mid .given .1) at (c .before .before .before .before .before .before .before .skip-value .ensures)) in let h = stands-count _ _ _ _ _ _ _ _ k in let r = steps.map-room _ _ _ _ _ (c .before .before .before .before .before .before .before .before .before .loop .inv .0) in omega (arith, h .1, r .0, k .part .within, c .before .before .before .before .before .before .before .before .before .before .before .before .before .before .before .before .before .good .0))
+    (λ c. let k = (rw (c .before .before .before .before .before .mid .given .1) at (c .before .before .before .before .before .before .before .skip-value .ensures)) in let g = stands-count _ _ _ _ _ _ _ _ k in let h = cut-small _ _ _ _ _ _ _ _ _ (k .part .within) (rw (c .before .late .given .1) at (c .before .before .before .skip-value2 .ensures)) in let r = steps.map-room _ _ _ _ _ (c .before .before .before .before .before .before .before .before .before .loop .inv .0) in omega (arith, g .1, h, r .0, c .before .before .before .before .before .before .before .before .before .before .before .before .before .before .before .before .before .good .0))
+    (λ c. steps.map-value-cut _ _ _ _ _ (c .before .before .before .before .before .before .before .before .before .loop .inv .0) (rw (c .before .before .before .before .before .before .before .before .before .loop .inv .1) at (c .before .before .before .before .before .before .before .before .loop-test .taken)) (rw (c .before .before .before .before .before .mid .given .1) at (c .before .before .before .before .before .before .before .skip-value .ensures)) (rw (c .before .late .given .1) at (c .before .before .before .skip-value2 .ensures)))
+    (λ c. search needs)
+    (λ c. let r = steps.map-room _ _ _ _ _ (c .before .before .before .before .before .loop .inv .0) in let h = cut-small _ _ _ _ _ _ _ _ _ (r .1) (rw (c .before .refusal .given .1) at (c .before .before .before .skip-value .ensures)) in omega (arith, h, r .0, c .before .before .before .before .before .before .before .before .before .before .before .before .before .good .0))
+    (λ c. steps.map-key-cut _ _ _ _ _ (c .before .before .before .before .before .loop .inv .0) (rw (c .before .before .before .before .before .loop .inv .1) at (c .before .before .before .before .loop-test .taken)) (rw (c .before .refusal .given .1) at (c .before .before .before .skip-value .ensures)))
+    (λ c. omega (arith, c .before .before .before .before .before .before .before .before .loop-test .taken, c .before .before .before .before .before .before .before .before .before .before .bits32 .ok))
+    (λ c. omega (arith, c .before .before .before .before .before .before .before .before .loop-test .taken))
+    (λ c. (steps.map-more _ _ _ _ _ (c .before .before .before .before .before .before .before .before .before .loop .inv .0) (rw (c .before .before .before .before .before .before .before .before .before .loop .inv .1) at (c .before .before .before .before .before .before .before .before .loop-test .taken)) (rw (c .before .before .before .before .before .mid .given .1) at (c .before .before .before .before .before .before .before .skip-value .ensures)) (rw (c .before .next .given .1) at (c .before .before .before .skip-value2 .ensures)), c .before .before .before .before .before .before .before .before .before .loop .inv .1))
+    (λ c. search needs)
+    (λ c. steps.map-stands _ _ _ _ _ (λ i. c .before .before .before .before .before .before .before .before .shared-slice-known .given i .fits) (c .before .loop .inv .0) (rw (c .before .loop .inv .1) at (c .loop-test .left)))
+    (λ c. steps.own-refused _ _ _ _ _ Sh.Pairs _ _ (λ z. omega (arith, c .before .before .before .before .before .pre .1)) (ap judged (told-as toldMap (c .before .refusal2 .given .1) (c .before .before .before .read-map-begin .ensures)))))
+    (λ t. skip-struct-lts.spec (skip-struct-claims t) (skip-struct-at t) skip-struct.Post
+    skip-struct-Inv-loop
+    skip-struct-μ-loop
+    (λ c κs. search needs)
+    (λ c. search needs)
+    (λ c. (steps.struct-start _ _ _ _ _ (c .before .before .before .before .before .pre .1) (told-as toldDepth (c .before .inner .given .1) (c .before .before .before .read-struct-begin .ensures)), struct-is (c .before .before .before .before .before .args .config) _ _ _ (told-as toldDepth (c .before .inner .given .1) (c .before .before .before .read-struct-begin .ensures)) .deeper))
+    (λ c κs. search needs)
+    (λ c. search needs)
+    (λ c κs. search needs)
+    (λ c. steps.struct-stands _ _ _ _ _ _ _ (c .before .before .before .before .before .before .loop .inv .0) (sym (c .before .is-stop .ensures) ∙ c .if1 .taken) (told-as toldField (c .before .before .before .field .given .1) (c .before .before .before .before .before .read-field-begin .ensures)))
+    (λ c. omega (arith, c .before .before .before .before .before .before .loop .inv .0 .deep))
+    (λ c κs. (omega (arith, c .before .before .before .before .before .before .before .before .before .before .before .before .pre .0, c .before .before .before .before .before .before .loop .inv .0 .deep), tt))
+    (λ c. search needs)
+    (λ c. let v = (rw (c .before .next .given .1, c .before .before .before .before .before .before .before .before .before .before .loop .inv .1) at (c .before .before .before .skip-value .ensures)) in let h = stands-count _ _ _ _ _ _ _ _ v in let i = field-is _ _ (sym (c .before .before .before .before .before .is-stop .ensures) ∙ c .before .before .before .before .if1 .left) (told-as toldField (c .before .before .before .before .before .before .before .field .given .1) (c .before .before .before .before .before .before .before .before .before .read-field-begin .ensures)) in let r = steps.struct-room _ _ _ _ _ _ _ (c .before .before .before .before .before .before .before .before .before .before .loop .inv .0) in omega (arith, h .1, i .part .from, r .0, v .part .within, c .before .before .before .before .before .before .before .before .before .before .before .before .before .before .before .before .good .0))
+    (λ c. let v = (rw (c .before .next .given .1, c .before .before .before .before .before .before .before .before .before .before .loop .inv .1) at (c .before .before .before .skip-value .ensures)) in let i = field-is _ _ (sym (c .before .before .before .before .before .is-stop .ensures) ∙ c .before .before .before .before .if1 .left) (told-as toldField (c .before .before .before .before .before .before .before .field .given .1) (c .before .before .before .before .before .before .before .before .before .read-field-begin .ensures)) in let l = part-length (i .part) in omega (arith, l, i .two, v .part .from, v .part .within))
+    (λ c. (steps.struct-more _ _ _ _ _ _ _ (c .before .before .before .before .before .before .before .before .before .before .loop .inv .0) (sym (c .before .before .before .before .before .is-stop .ensures) ∙ c .before .before .before .before .if1 .left) (told-as toldField (c .before .before .before .before .before .before .before .field .given .1) (c .before .before .before .before .before .before .before .before .before .read-field-begin .ensures)) (rw (c .before .next .given .1, c .before .before .before .before .before .before .before .before .before .before .loop .inv .1) at (c .before .before .before .skip-value .ensures)), c .before .before .before .before .before .before .before .before .before .before .loop .inv .1))
+    (λ c. search needs)
+    (λ c. let i = field-is _ _ (sym (c .before .before .before .before .before .is-stop .ensures) ∙ c .before .before .before .before .if1 .left) (told-as toldField (c .before .before .before .before .before .before .before .field .given .1) (c .before .before .before .before .before .before .before .before .before .read-field-begin .ensures)) in let h = cut-small _ _ _ _ _ _ _ _ _ (i .part .within) (rw (c .before .refusal .given .1, c .before .before .before .before .before .before .before .before .before .before .loop .inv .1) at (c .before .before .before .skip-value .ensures)) in let r = steps.struct-room _ _ _ _ _ _ _ (c .before .before .before .before .before .before .before .before .before .before .loop .inv .0) in omega (arith, h, i .part .from, r .0, c .before .before .before .before .before .before .before .before .before .before .before .before .before .before .before .before .good .0))
+    (λ c. steps.struct-value-cut _ _ _ _ _ _ _ (c .before .before .before .before .before .before .before .before .before .before .loop .inv .0) (sym (c .before .before .before .before .before .is-stop .ensures) ∙ c .before .before .before .before .if1 .left) (told-as toldField (c .before .before .before .before .before .before .before .field .given .1) (c .before .before .before .before .before .before .before .before .before .read-field-begin .ensures)) (rw (c .before .refusal .given .1, c .before .before .before .before .before .before .before .before .before .before .loop .inv .1) at (c .before .before .before .skip-value .ensures)))
+    (λ c. search needs)
+    (λ c. steps.struct-head-cut _ _ _ _ _ _ _ _ _ (c .before .before .before .before .loop .inv .0) (told-as toldField (c .before .refusal2 .given .1) (c .before .before .before .read-field-begin .ensures)))
+    (λ c. search needs)
+    (λ c. steps.own-refused _ _ _ _ _ Sh.Fields _ _ (λ z. omega (arith, c .before .before .before .before .before .pre .1)) (ap judged (told-as toldDepth (c .before .refusal3 .given .1) (c .before .before .before .read-struct-begin .ensures)))))
+    (λ t. skip-value-lts.spec (skip-value-claims t) (skip-value-at t) skip-value.Post
+    (λ c κs. search needs)
+    (λ c. let a = c .before .before .before .args in deep-answers (a .config) (a .bytes .now) (a .cursor .at) (a .depth) (a .struct-depth) (shapeOf (a .field-type)) (c .before .if1 .taken) (c .refused .ensures))
+    (λ c κs. search needs)
+    (λ c. search needs)
+    (λ c κs. search needs)
+    (λ c. search needs)
+    (λ c κs. search needs)
+    (λ c. search needs)
+    (λ c κs. (omega (arith, c .before .before .before .before .before .pre .0), omega (arith, c .before .before .before .if1 .left)))
+    (λ c. search needs)
+    (λ c κs. (omega (arith, c .before .before .before .before .before .pre .0), omega (arith, c .before .before .before .if1 .left)))
+    (λ c. search needs)
+    (λ c κs. (omega (arith, c .before .before .before .before .before .pre .0), omega (arith, c .before .before .before .if1 .left)))
+    (λ c. search needs)
+    (λ c κs. search needs)
+    (λ c. let a = c .before .before .before .before .before .before .before .args in shape-answers (a .config) (a .bytes .now) (a .cursor .at) (a .depth) (a .struct-depth) (toldWalked (c .skip-fixed .result)) (sym (c .before .before .before .before .shape-of .ensures) ∙ c .before .before .width .given .1) (fixed-answers (a .config) (a .bytes .now) (a .cursor .at) (a .depth) (a .struct-depth) (c .before .before .width .given .0 .0) (c .before .before .before .before .before .if1 .left) (fixed-some (a .field-type) (c .before .before .width .given .0 .0) (sym (c .before .before .before .before .shape-of .ensures) ∙ c .before .before .width .given .1)) (c .skip-fixed .ensures)))
+    (λ c. let a = c .before .before .before .before .before .before .args in shape-answers (a .config) (a .bytes .now) (a .cursor .at) (a .depth) (a .struct-depth) (toldWalked (c .skip-text .result)) (sym (c .before .before .before .shape-of .ensures) ∙ c .before .enum-told .given .1) (text-answers (a .config) (a .bytes .now) (a .cursor .at) (a .depth) (a .struct-depth) (λ i. c .before .before .before .before .before .shared-slice-known .given i .fits) (c .before .before .before .before .if1 .left) (c .skip-text .ensures)))
+    (λ c. let a = c .before .before .before .before .before .before .args in shape-answers (a .config) (a .bytes .now) (a .cursor .at) (a .depth) (a .struct-depth) (toldWalked (c .skip-struct .result)) (sym (c .before .before .before .shape-of .ensures) ∙ c .before .enum-told2 .given .1) (c .skip-struct .ensures))
+    (λ c. let a = c .before .before .before .before .before .before .args in shape-answers (a .config) (a .bytes .now) (a .cursor .at) (a .depth) (a .struct-depth) (toldWalked (c .skip-list .result)) (sym (c .before .before .before .shape-of .ensures) ∙ c .before .enum-told3 .given .1) (c .skip-list .ensures))
+    (λ c. let a = c .before .before .before .before .before .before .args in shape-answers (a .config) (a .bytes .now) (a .cursor .at) (a .depth) (a .struct-depth) (toldWalked (c .skip-map .result)) (sym (c .before .before .before .shape-of .ensures) ∙ c .before .enum-told4 .given .1) (c .skip-map .ensures))
+    (λ c. let a = c .before .before .before .before .before .before .args in shape-answers (a .config) (a .bytes .now) (a .cursor .at) (a .depth) (a .struct-depth) (toldWalked (c .refused2 .result)) (sym (c .before .before .before .shape-of .ensures) ∙ c .before .enum-told5 .given .1) (unfit-answers (a .config) (a .bytes .now) (a .cursor .at) (a .depth) (a .struct-depth) (c .before .before .before .before .if1 .left) (c .refused2 .ensures))))

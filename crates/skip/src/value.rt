@@ -1,0 +1,213 @@
+// One value, whatever its type. A value's skip calls that of a struct, a list or a map, and they call back for each child with the depth
+// less one, so the depth bounds the calls.
+use config::configuration::TConfiguration;
+use read::container::ListRead;
+use read::container::MapRead;
+use read::field::FieldRead;
+use read::structs::DepthRead;
+use text::TextRead;
+use wire::codes::TType;
+use wire::cursor::Cursor;
+use wire::cursor::Moved;
+use wire::refusal::Kind;
+use wire::refusal::Refusal;
+use wire::shape::Shape;
+ghost use mathlib.Core.Path.{_≡_};
+ghost use Prim.Native.Nat.{_<_};
+ghost use Rattle.wire.specs.Answer.{within};
+ghost use Rattle.wire.specs.Refusals.{kindNumber};
+ghost use Rattle.wire.specs.Shapes.{shapeOf};
+ghost use Rattle.text.specs.Texts.{bytesAt};
+ghost use Rattle.tree.specs.Answers.{judged, Answers, cut-off};
+ghost use Rattle.skip.specs.Told.{toldWalked, leafOutcome};
+
+// The cursor past a value and the values in it, or the refusal and the values begun.
+pub enum Walked {
+    Passed(Cursor, usize),
+    Refused(Refusal, usize),
+}
+
+fn refused(kind: Kind, place: usize) -> Walked
+    ensures { λ r. ⌜ toldWalked r ≡ cut-off (kindNumber kind) place 1 ⌝ }
+{
+    Walked::Refused(Refusal { kind, place }, 1)
+}
+
+fn skip_fixed(bytes: &[u8], cursor: Cursor, width: usize) -> Walked
+    ensures { λ r. ⌜ toldWalked r ≡ leafOutcome (within (now (bytes .entry)) (cursor .at) width) ⌝ }
+{
+    match cursor.past(bytes, width) {
+        Moved::To(next) => Walked::Passed(next, 1),
+        Moved::Refused(refusal) => Walked::Refused(refusal, 1),
+    }
+}
+
+// No check of UTF-8.
+fn skip_text(bytes: &[u8], cursor: Cursor, config: TConfiguration) -> Walked
+    ensures { λ r. ⌜ toldWalked r ≡ leafOutcome (judged (bytesAt (config .«max_string_size») (now (bytes .entry)) (cursor .at))) ⌝ }
+{
+    match text::read_bytes(bytes, cursor, config) {
+        TextRead::Value(_, next) => Walked::Passed(next, 1),
+        TextRead::Refused(refusal) => Walked::Refused(refusal, 1),
+    }
+}
+
+pub(crate) fn skip_value(
+    bytes: &[u8],
+    cursor: Cursor,
+    field_type: TType,
+    depth: usize,
+    struct_depth: usize,
+    config: TConfiguration,
+) -> Walked
+    ensures { λ r. ⌜ Answers config (now (bytes .entry)) (cursor .at) depth «struct_depth» (shapeOf «field_type») (toldWalked r) ⌝ }
+{
+    let start = cursor.at;
+    if depth == 0 {
+        return refused(Kind::SkipDepth, start);
+    }
+    match wire::shape::shape_of(field_type) {
+        Shape::Fixed(width) => skip_fixed(bytes, cursor, width),
+        Shape::Text => skip_text(bytes, cursor, config),
+        Shape::Fields => skip_struct(bytes, start, depth, struct_depth, config),
+        Shape::Items => skip_list(bytes, start, depth, struct_depth, config),
+        Shape::Pairs => skip_map(bytes, start, depth, struct_depth, config),
+        Shape::Unfit => refused(Kind::WrongType, start),
+    }
+}
+
+fn skip_struct(
+    bytes: &[u8],
+    start: usize,
+    depth: usize,
+    struct_depth: usize,
+    config: TConfiguration,
+) -> Walked
+    requires { ⌜ 0 < depth ⌝ }
+    ensures { λ r. ⌜ Answers config (now (bytes .entry)) start depth «struct_depth» Shape.Fields (toldWalked r) ⌝ }
+{
+    match read::structs::read_struct_begin(bytes, Cursor { at: start }, struct_depth, config) {
+        DepthRead::Value(inner, _) => {
+            let mut at = start;
+            let mut count: usize = 1;
+            loop {
+                match read::field::read_field_begin(bytes, Cursor { at }) {
+                    FieldRead::Value(field, first) => {
+                        let field_type = field.field_type;
+                        if field_type.is_stop() {
+                            return Walked::Passed(first, count);
+                        }
+                        match skip_value(bytes, first, field_type, depth - 1, inner, config) {
+                            Walked::Passed(next, values) => {
+                                at = next.at;
+                                count = count + values;
+                            }
+                            Walked::Refused(refusal, values) => {
+                                return Walked::Refused(refusal, count + values);
+                            }
+                        }
+                    }
+                    FieldRead::Refused(refusal) => {
+                        return Walked::Refused(refusal, count);
+                    }
+                }
+            }
+        }
+        DepthRead::Refused(refusal) => Walked::Refused(refusal, 1),
+    }
+}
+
+// A list or a set.
+fn skip_list(
+    bytes: &[u8],
+    start: usize,
+    depth: usize,
+    struct_depth: usize,
+    config: TConfiguration,
+) -> Walked
+    requires { ⌜ 0 < depth ⌝ }
+    ensures { λ r. ⌜ Answers config (now (bytes .entry)) start depth «struct_depth» Shape.Items (toldWalked r) ⌝ }
+{
+    match read::container::read_list_begin(bytes, Cursor { at: start }, config) {
+        ListRead::Value(list, first) => {
+            let element_type = list.element_type;
+            let size = list.size;
+            let len = number::sign::bits32(size) as usize;
+            let mut at = first.at;
+            let mut count: usize = 1;
+            let mut i: usize = 0;
+            while i < len {
+                match skip_value(
+                    bytes,
+                    Cursor { at },
+                    element_type,
+                    depth - 1,
+                    struct_depth,
+                    config,
+                ) {
+                    Walked::Passed(next, values) => {
+                        at = next.at;
+                        count = count + values;
+                    }
+                    Walked::Refused(refusal, values) => {
+                        return Walked::Refused(refusal, count + values);
+                    }
+                }
+                i = i + 1;
+            }
+            Walked::Passed(Cursor { at }, count)
+        }
+        ListRead::Refused(refusal) => Walked::Refused(refusal, 1),
+    }
+}
+
+fn skip_map(
+    bytes: &[u8],
+    start: usize,
+    depth: usize,
+    struct_depth: usize,
+    config: TConfiguration,
+) -> Walked
+    requires { ⌜ 0 < depth ⌝ }
+    ensures { λ r. ⌜ Answers config (now (bytes .entry)) start depth «struct_depth» Shape.Pairs (toldWalked r) ⌝ }
+{
+    match read::container::read_map_begin(bytes, Cursor { at: start }, config) {
+        MapRead::Value(map, first) => {
+            let key_type = map.key_type;
+            let value_type = map.value_type;
+            let size = map.size;
+            let len = number::sign::bits32(size) as usize;
+            let mut at = first.at;
+            let mut count: usize = 1;
+            let mut i: usize = 0;
+            while i < len {
+                match skip_value(
+                    bytes,
+                    Cursor { at },
+                    key_type,
+                    depth - 1,
+                    struct_depth,
+                    config,
+                ) {
+                    Walked::Passed(mid, keys) => {
+                        match skip_value(bytes, mid, value_type, depth - 1, struct_depth, config) {
+                            Walked::Passed(next, values) => {
+                                at = next.at;
+                                count = count + keys + values;
+                            }
+                            Walked::Refused(late, values) => {
+                                return Walked::Refused(late, count + keys + values);
+                            }
+                        }
+                    }
+                    Walked::Refused(refusal, keys) => {
+                        return Walked::Refused(refusal, count + keys);
+                    }
+                }
+                i = i + 1;
+            }
+            Walked::Passed(Cursor { at }, count)
+        }
+        MapRead::Refused(refusal) => Walked::Refused(refusal, 1),
+    }
+}

@@ -1,0 +1,4 @@
+-- Read in this order.
+pub mod Part
+pub mod Tree
+pub mod Answers

@@ -1,0 +1,173 @@
+-- A value as a tree: its bytes (Apache's layout), the number of its values, and that it fits depth and limits at every node.
+-- The parts of a struct, a list and a map are written from the last one back.
+use Prim.Native.Nat.{ℕ, _+_, _-_, _*_, _<_}
+use mathlib.Core.Path.{_≡_}
+use mathlib.Core.Bool.{false}
+use mathlib.Core.List.{List, [], _∷_, _++_}
+use lib.ListN.{length}
+use Rattle.wire.specs.Codes.{typeByte, typeOf, isStop, leastSize}
+use Rattle.wire.specs.Shapes.{shapeOf}
+use Rattle.wire.specs.declared.codes.TType.{TType}
+use Rattle.wire.specs.declared.codes.TType.the-variants as T
+use Rattle.wire.specs.declared.codes.Typed.the-variants as Type-of
+use Rattle.wire.specs.declared.shape.Shape.{Shape}
+use Rattle.wire.specs.declared.shape.Shape.the-variants as Sh
+use Rattle.config.specs.Limits.{above, reached}
+use Rattle.config.specs.declared.configuration.TConfiguration.{TConfiguration}
+use Rattle.number.specs.BigEndian.{bytesOf}
+
+mutual
+  pub data Tree : Type 0 where
+    -- a scalar or a UUID, by its bytes
+    scalar : List ℕ → Tree
+    -- a string, by its body
+    text : List ℕ → Tree
+    struct : Fields → Tree
+    -- a list or a set: the element type and the elements
+    list : TType → Trees → Tree
+    -- a map: the key type, the value type and the pairs
+    map : TType → TType → Pairs → Tree
+
+  -- the fields of a struct: the type, the two bytes of the id and the value of each
+  pub data Fields : Type 0 where
+    nil : Fields
+    snoc : Fields → TType → List ℕ → Tree → Fields
+
+  pub data Trees : Type 0 where
+    none : Trees
+    then : Trees → Tree → Trees
+
+  pub data Pairs : Type 0 where
+    empty : Pairs
+    with : Pairs → Tree → Tree → Pairs
+
+unfoldable pub countOf : Trees → ℕ
+countOf none = 0
+countOf (then ts t) = countOf ts + 1
+
+unfoldable pub pairsOf : Pairs → ℕ
+pairsOf empty = 0
+pairsOf (with ps k v) = pairsOf ps + 1
+
+-- "Layout comes from Apache's public Thrift binary protocol document"
+unfoldable mutual
+  pub layout : Tree → List ℕ
+  layout (scalar b) = b
+  -- the length in four bytes, then the bytes
+  layout (text b) = bytesOf 4 (length b) ++ b
+  -- the fields, then a stop byte
+  layout (struct fs) = fieldsLayout fs ++ (typeByte T.Stop ∷ [])
+  -- the element type, the number of elements in four bytes, the elements
+  layout (list t ts) = (typeByte t ∷ bytesOf 4 (countOf ts)) ++ treesLayout ts
+  -- the key type, the value type, the number of pairs in four bytes, key and value of each
+  layout (map k v ps) = (typeByte k ∷ typeByte v ∷ bytesOf 4 (pairsOf ps)) ++ pairsLayout ps
+
+  pub fieldsLayout : Fields → List ℕ
+  fieldsLayout nil = []
+  -- the type, the id in two bytes, the value
+  fieldsLayout (snoc fs t id v) = fieldsLayout fs ++ ((typeByte t ∷ id) ++ layout v)
+
+  pub treesLayout : Trees → List ℕ
+  treesLayout none = []
+  treesLayout (then ts t) = treesLayout ts ++ layout t
+
+  pub pairsLayout : Pairs → List ℕ
+  pairsLayout empty = []
+  pairsLayout (with ps k v) = pairsLayout ps ++ (layout k ++ layout v)
+
+-- the number of values: the value itself and those in it
+unfoldable mutual
+  pub valuesOf : Tree → ℕ
+  valuesOf (scalar b) = 1
+  valuesOf (text b) = 1
+  valuesOf (struct fs) = 1 + fieldsValues fs
+  valuesOf (list t ts) = 1 + treesValues ts
+  valuesOf (map k v ps) = 1 + pairsValues ps
+
+  pub fieldsValues : Fields → ℕ
+  fieldsValues nil = 0
+  fieldsValues (snoc fs t id v) = fieldsValues fs + valuesOf v
+
+  pub treesValues : Trees → ℕ
+  treesValues none = 0
+  treesValues (then ts t) = treesValues ts + valuesOf t
+
+  pub pairsValues : Pairs → ℕ
+  pairsValues empty = 0
+  pairsValues (with ps k v) = pairsValues ps + (valuesOf k + valuesOf v)
+
+-- a type that its byte reads as: every one but Utf7, which shares String's
+abbrev pub Reads : TType → Type 0
+Reads t = typeOf (typeByte t) ≡ Type-of.Known t
+
+-- a text: its length has 31 bits and is within the string limit
+pub record TextFits (c : TConfiguration) (n : ℕ) : Type 0 where
+  pub positive : n < 2147483648
+  pub string : above n (c .«max_string_size») ≡ false
+
+-- a container of n elements: 31 bits, within the container limit, and its least bytes within the message limit
+pub record SizeFits (c : TConfiguration) (least n : ℕ) : Type 0 where
+  pub positive : n < 2147483648
+  pub container : above n (c .«max_container_size») ≡ false
+  pub message : above (n * least) (c .«max_message_size») ≡ false
+
+-- "each limit at every node": a value of a shape has depth left, and what its kind asks; `inner` is said of what is in it
+pub record ScalarFits (d : ℕ) (sh : Shape) (b : List ℕ) : Type 0 where
+  pub deep : 0 < d
+  pub shape : sh ≡ Sh.Fixed (length b)
+  pub some : 0 < length b
+
+pub record StringFits (c : TConfiguration) (d : ℕ) (sh : Shape) (b : List ℕ) : Type 0 where
+  pub deep : 0 < d
+  pub shape : sh ≡ Sh.Text
+  pub size : TextFits c (length b)
+
+pub record StructFits (c : TConfiguration) (d sd : ℕ) (sh : Shape) (inner : Type 0) : Type 0 where
+  pub deep : 0 < d
+  pub shape : sh ≡ Sh.Fields
+  pub limit : reached sd (c .«max_recursion_depth») ≡ false
+  pub cap : sd < 65535
+  pub fields : inner
+
+pub record ListFits (c : TConfiguration) (d : ℕ) (sh : Shape) (t : TType) (n : ℕ) (inner : Type 0) : Type 0 where
+  pub deep : 0 < d
+  pub shape : sh ≡ Sh.Items
+  pub reads : Reads t
+  pub size : SizeFits c (leastSize t) n
+  pub elements : inner
+
+pub record MapFits (c : TConfiguration) (d : ℕ) (sh : Shape) (k v : TType) (n : ℕ) (inner : Type 0) : Type 0 where
+  pub deep : 0 < d
+  pub shape : sh ≡ Sh.Pairs
+  pub key : Reads k
+  pub value : Reads v
+  pub size : SizeFits c (leastSize k + leastSize v) n
+  pub pairs : inner
+
+pub record FieldFits (t : TType) (id : List ℕ) (before inner : Type 0) : Type 0 where
+  pub fields : before
+  pub reads : Reads t
+  pub going : isStop t ≡ false
+  pub two : length id ≡ 2
+  pub value : inner
+
+-- a tree of a shape fits at a depth and a struct depth: children have one less of the one, and a struct's one more of the other
+unfoldable mutual
+  pub Fits : TConfiguration → ℕ → ℕ → Shape → Tree → Type 0
+  Fits c d sd sh (scalar b) = ScalarFits d sh b
+  Fits c d sd sh (text b) = StringFits c d sh b
+  Fits c d sd sh (struct fs) = StructFits c d sd sh (FieldsFit c (d - 1) (sd + 1) fs)
+  Fits c d sd sh (list t ts) = ListFits c d sh t (countOf ts) (TreesFit c (d - 1) sd (shapeOf t) ts)
+  Fits c d sd sh (map k v ps) = MapFits c d sh k v (pairsOf ps) (PairsFit c (d - 1) sd (shapeOf k) (shapeOf v) ps)
+
+  pub FieldsFit : TConfiguration → ℕ → ℕ → Fields → Type 0
+  FieldsFit c d sd nil = Unit
+  FieldsFit c d sd (snoc fs t id v) = FieldFits t id (FieldsFit c d sd fs) (Fits c d sd (shapeOf t) v)
+
+  pub TreesFit : TConfiguration → ℕ → ℕ → Shape → Trees → Type 0
+  TreesFit c d sd sh none = Unit
+  TreesFit c d sd sh (then ts t) = TreesFit c d sd sh ts × Fits c d sd sh t
+
+  pub PairsFit : TConfiguration → ℕ → ℕ → Shape → Shape → Pairs → Type 0
+  PairsFit c d sd kh vh empty = Unit
+  PairsFit c d sd kh vh (with ps k v) = PairsFit c d sd kh vh ps × Fits c d sd kh k × Fits c d sd vh v
