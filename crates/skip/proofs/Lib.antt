@@ -1,3 +1,6 @@
+pub mod Counted
 pub mod Entry
+pub mod Exactly
 pub mod Leaves
+pub mod MoreRoom
 pub mod Sizes

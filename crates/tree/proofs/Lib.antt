@@ -1,5 +1,9 @@
 pub mod Bounds
+pub mod Growth
 pub mod Heads
+pub mod Model
+pub mod MoreRoom
+pub mod Only
 pub mod Parts
 pub mod Places
 pub mod Reading

@@ -21,10 +21,11 @@ use Rattle.wire.proofs.Within.{whole}
 use Rattle.number.specs.BigEndian.{big, bytesOf}
 use Rattle.number.specs.Reads.{numberAt, byteAt, i16At, i32At}
 use Rattle.number.proofs.Widths.{written, length-bytesOf}
+use Rattle.config.specs.Limits.{reached}
 use Rattle.config.specs.declared.configuration.TConfiguration.{TConfiguration}
 use Rattle.text.specs.Texts.{span, sizeAt, sizedAt, bytesAt}
 use Rattle.text.proofs.Texts as texts
-use Rattle.read.specs.Headers.{known, typeAt, field, fieldAt, countAt, list, listAt, map, mapAt}
+use Rattle.read.specs.Headers.{typeAt, field, fieldAt, countAt, list, listAt, map, mapAt, structBeginAt}
 use Rattle.read.proofs.Headers as headers
 use Rattle.tree.specs.Part.{Part}
 use Rattle.tree.specs.Tree.{Reads, TextFits, SizeFits}
@@ -95,3 +96,8 @@ field-reads {s} {at} {e} t id r g h p =
 
 pub stop-reads : {s : List ℕ} {at e : ℕ} → Part s at e (typeByte T.Stop ∷ []) → gives (field T.Stop (pos 0)) e ≡ fieldAt s at
 stop-reads {s} {at} p = headers.stop s at (type-reads T.Stop refl p) refl
+
+-- a struct begins where there is room for one more
+pub struct-reads : (c : TConfiguration) (sd : ℕ) (s : List ℕ) (at : ℕ) → at ≤ length s → reached sd (c .«max_recursion_depth») ≡ false → sd < 65535
+    → gives (sd + 1) at ≡ structBeginAt (c .«max_recursion_depth») sd s at
+struct-reads c sd s at h l i = headers.begun (c .«max_recursion_depth») sd s at h (omega arith) l (λ e. omega arith)

@@ -2,3 +2,4 @@
 pub mod Part
 pub mod Tree
 pub mod Answers
+pub mod Room

@@ -1,0 +1,22 @@
+-- The count: accepted, at least 1 and never above the bytes passed; refused, at most one above the bytes from the start to the refusal's place.
+-- Assumes nothing.
+use Prim.Native.Nat.{ℕ, _+_, _≤_}
+use mathlib.Core.Path.{_≡_}
+use mathlib.Core.List.{List}
+use lib.ListN.{length}
+use Rattle.wire.specs.Shapes.{shapeOf}
+use Rattle.wire.specs.declared.codes.TType.{TType}
+use Rattle.config.specs.declared.configuration.TConfiguration.{TConfiguration}
+use Rattle.tree.specs.Answers.{ended, cut-off}
+use Rattle.tree.proofs.Bounds.{stands-count, cut-count}
+use Rattle.skip.specs.Skips.{toldSkipped, SkipSays}
+use Rattle.skip.specs.declared.till_depth.Skipped.{Skipped}
+use Rattle.skip.proofs.Exactly.{accepts, refuses}
+
+module _ (c : TConfiguration) (s : List ℕ) (at d sd : ℕ) (t : TType) (h : at ≤ length s) (i : d ≤ 127) (j : sd ≤ 65535) (r : Skipped)
+    (says : SkipSays c s at d sd t r) where
+  pub accepted-count : (e n : ℕ) → toldSkipped r ≡ ended e n → (1 ≤ n) × (at + n ≤ e)
+  accepted-count e n q = stands-count c s at d sd (shapeOf t) e n (accepts c s at d sd t h i j r says e n .0 q)
+
+  pub refused-count : (k p n : ℕ) → toldSkipped r ≡ cut-off k p n → at + n ≤ p + 1
+  refused-count k p n q = cut-count c s at d sd (shapeOf t) k p n h (refuses c s at d sd t h i j r says k p n .0 q)

@@ -1,0 +1,59 @@
+-- Demand 2: the skip accepts exactly where a value of that type stands, and ends where it ends; it refuses exactly as the cut tree says; and no two
+-- answers meet its promise. Assumes nothing.
+use Prim.Native.Nat.{ℕ, _≤_}
+use mathlib.Core.Path.{_≡_, refl, sym, ap, subst, _∙_}
+use mathlib.Core.Logic.{_↔_}
+use mathlib.Core.List.{List}
+use lib.ListN.{length}
+use Rattle.wire.specs.Answer.{Answer, gives}
+use Rattle.wire.specs.Refusals.{kindNumber}
+use Rattle.wire.specs.Shapes.{shapeOf}
+use Rattle.wire.specs.declared.codes.TType.{TType}
+use Rattle.wire.specs.declared.refusal.Refusal.{Refusal}
+use Rattle.wire.proofs.Refusals.{refusalOf, told-back}
+use Rattle.config.specs.declared.configuration.TConfiguration.{TConfiguration}
+use Rattle.tree.specs.Answers.{Outcome, ended, cut-off, Stands, IsCut, Answers, AfterEntry, SkipAnswers}
+use Rattle.tree.proofs.Heads.{clash}
+use Rattle.tree.proofs.Only.{only, skip-only}
+use Rattle.skip.specs.Skips.{toldSkipped, HandsOn, SkipSays}
+use Rattle.skip.specs.declared.till_depth.Skipped.{Skipped}
+use Rattle.skip.specs.declared.till_depth.Skipped.the-variants as Skip
+use Rattle.skip.proofs.Entry.{entered}
+
+-- with the start not past the end and both depths allowed
+module _ (c : TConfiguration) (s : List ℕ) (at d sd : ℕ) (t : TType) (h : at ≤ length s) (i : d ≤ 127) (j : sd ≤ 65535) where
+  pub enter : (x : Outcome) → SkipAnswers c s at d sd t x → Answers c s at d sd (shapeOf t) x
+  enter x a = subst (λ (m : Answer Unit). AfterEntry m c s at d sd (shapeOf t) x) (entered c s at d sd t h i j) a
+
+  module _ (r : Skipped) (says : SkipSays c s at d sd t r) where
+    pub accepts : (e n : ℕ) → (toldSkipped r ≡ ended e n) ↔ Stands c s at d sd (shapeOf t) e n
+    accepts e n = (
+      λ q. subst (Answers c s at d sd (shapeOf t)) q (enter (toldSkipped r) (says .answers)),
+      λ v. only c s at d sd (shapeOf t) (toldSkipped r) (ended e n) (enter (toldSkipped r) (says .answers)) v,
+    )
+
+    pub refuses : (k p n : ℕ) → (toldSkipped r ≡ cut-off k p n) ↔ IsCut c s at d sd (shapeOf t) k p n
+    refuses k p n = (
+      λ q. subst (Answers c s at d sd (shapeOf t)) q (enter (toldSkipped r) (says .answers)),
+      λ v. only c s at d sd (shapeOf t) (toldSkipped r) (cut-off k p n) (enter (toldSkipped r) (says .answers)) v,
+    )
+
+same-told : (sd : ℕ) (a b : Skipped) → toldSkipped a ≡ toldSkipped b → HandsOn sd a → HandsOn sd b → a ≡ b
+same-told sd (Skip.Passed u d n) (Skip.Passed v e m) q p r =
+    let at : u .at ≡ v .at = cc in
+    let depth : d ≡ e = p ∙ sym r in
+    let count : n ≡ m = cc in
+    ap (λ (k : ℕ). Skip.Passed (record { at = k }) d n) at ∙ cc
+same-told sd (Skip.Passed u d n) (Skip.Refused y m) q p r = clash (cc)
+same-told sd (Skip.Refused x n) (Skip.Passed v e m) q p r = clash (cc)
+same-told sd (Skip.Refused x n) (Skip.Refused y m) q p r =
+    let number : kindNumber (x .kind) ≡ kindNumber (y .kind) = cc in
+    let place : x .place ≡ y .place = cc in
+    let count : n ≡ m = cc in
+    let refusal : x ≡ y = sym (told-back x) ∙ ap (λ (k : ℕ). refusalOf k (x .place)) number ∙ ap (refusalOf (kindNumber (y .kind))) place ∙ told-back y in
+    ap (λ (z : Refusal). Skip.Refused z n) refusal ∙ ap (Skip.Refused y) count
+
+-- any two answers that the promise admits are equal
+pub skip-settled : (c : TConfiguration) (s : List ℕ) (at d sd : ℕ) (t : TType) (a b : Skipped) → SkipSays c s at d sd t a → SkipSays c s at d sd t b → a ≡ b
+skip-settled c s at d sd t a b p q =
+    same-told sd a b (skip-only c s at d sd t (toldSkipped a) (toldSkipped b) (p .answers) (q .answers)) (p .hands) (q .hands)
