@@ -4,6 +4,8 @@ use config::configuration::TConfiguration;
 use config::limit::Limit;
 use message::MessageRead;
 use number::I32Read;
+use skip::till_depth::Skipped;
+use wire::codes::TType;
 use wire::cursor::Cursor;
 use wire::refusal::Refusal;
 
@@ -70,6 +72,48 @@ fn show_message(bytes: &[u8], strict: bool) {
     }
 }
 
+fn show_skip(bytes: &[u8], field_type: TType, depth: usize) {
+    let limits = TConfiguration::default();
+    match skip::till_depth::skip_till_depth(bytes, Cursor::new(0), field_type, depth, 0, limits) {
+        Skipped::Passed {
+            next,
+            struct_depth: _,
+            count,
+        } => {
+            print(b"end ");
+            io::print_decimal(1, next.at as u64);
+            print(b", count ");
+            io::print_decimal(1, count as u64);
+            print(b"\n");
+        }
+        Skipped::Refused { refusal, count } => {
+            print(b"count ");
+            io::print_decimal(1, count as u64);
+            print(b", ");
+            print_refusal(refusal);
+        }
+    }
+}
+
+fn show_skips() {
+    print(b"W4 skip Bool over 02, depth 1: ");
+    show_skip(b"\x02", TType::Bool, 1);
+    print(b"W4 skip Bool over 02, depth 0: ");
+    show_skip(b"\x02", TType::Bool, 0);
+    print(b"W5 skip List over 03 00 00 00 02 05 06, depth 2: ");
+    show_skip(b"\x03\x00\x00\x00\x02\x05\x06", TType::List, 2);
+    print(b"W6 the same at depth 1: ");
+    show_skip(b"\x03\x00\x00\x00\x02\x05\x06", TType::List, 1);
+    print(b"W7 skip List over 01 00 00 00 00, depth 1: ");
+    show_skip(b"\x01\x00\x00\x00\x00", TType::List, 1);
+    print(b"W8 skip List over 01 00 00 00 01, depth 2: ");
+    show_skip(b"\x01\x00\x00\x00\x01", TType::List, 2);
+    print(b"W9 skip Struct over 08 00 01 00 00 00 09 00, depth 2: ");
+    show_skip(b"\x08\x00\x01\x00\x00\x00\x09\x00", TType::Struct, 2);
+    print(b"W10 skip String over FF FF FF FF, depth 1: ");
+    show_skip(b"\xFF\xFF\xFF\xFF", TType::String, 1);
+}
+
 fn main() {
     print(b"W1 strict read of 80 01 00 01 00 00 00 02 61 62 00 00 00 07: ");
     show_message(b"\x80\x01\x00\x01\x00\x00\x00\x02ab\x00\x00\x00\x07", true);
@@ -77,6 +121,7 @@ fn main() {
     show_message(b"\x00\x00\x00\x02ab\x01\x00\x00\x00\x07", false);
     print(b"W3 strict read of W2: ");
     show_message(b"\x00\x00\x00\x02ab\x01\x00\x00\x00\x07", true);
+    show_skips();
     print(b"i32 of FF FF FF FE: ");
     show_i32(b"\xFF\xFF\xFF\xFE", 0);
     print(b"i32 of 00 00 00: ");

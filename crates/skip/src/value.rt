@@ -145,8 +145,8 @@ fn skip_list(
                     struct_depth,
                     config,
                 ) {
-                    Walked::Passed(next, values) => {
-                        at = next.at;
+                    Walked::Passed(end, values) => {
+                        at = end.at;
                         count = count + values;
                     }
                     Walked::Refused(refusal, values) => {

@@ -1,0 +1,23 @@
+-- Assumes nothing.
+use borrow.Author.Needs.{needs}
+use native.Mathlib.Omega.{arith}
+use lib.Dec.{lit≤}
+use Rattle.wire.specs.Answer.{gives, refused}
+use Rattle.wire.specs.declared.codes.TType.the-variants as T
+use Rattle.config.specs.Limits.{defaultLimits}
+use Rattle.skip.specs.Skips.{toldSkipped}
+use Rattle.skip.proofs.Entry.{entry-beyond, entry-depth, entered}
+use Rattle.host.proofs.Rows.{unknown-as}
+use Rattle.host.proofs.unknown_type.Statement.{statement}
+use Rattle.host.proofs.unknown_type.Tie as tie
+
+pub unknown-type-spec : {M : Type 1} → statement M
+unknown-type-spec =
+    tie.close
+    (tie.spec
+    (λ c κs. search needs)
+    (λ c. let a = c .before .before .before .args in unknown-as (a .bytes .now) (a .place) (a .depth) (refused 2 (a .place)) (toldSkipped (c .refused .result)) (entry-beyond defaultLimits (a .bytes .now) (a .place) (a .depth) 0 T.Stop (omega arith)) (c .refused .ensures))
+    (λ c κs. search needs)
+    (λ c. let a = c .before .before .before .before .args in unknown-as (a .bytes .now) (a .place) (a .depth) (refused 20 (a .place)) (toldSkipped (c .refused2 .result)) (entry-depth defaultLimits (a .bytes .now) (a .place) (a .depth) 0 T.Stop (omega arith) (omega arith)) (c .refused2 .ensures))
+    (λ c κs. search needs)
+    (λ c. let a = c .before .before .before .before .args in unknown-as (a .bytes .now) (a .place) (a .depth) (gives tt (a .place)) (toldSkipped (c .refused3 .result)) (entered defaultLimits (a .bytes .now) (a .place) (a .depth) 0 T.Stop (omega arith) (omega arith) (lit≤ tt)) (c .refused3 .ensures)))
