@@ -1,8 +1,7 @@
 -- The two cases of building, and that no two answers meet its promise. Assumes nothing.
-use Prim.Native.Nat.{ℕ}
 use mathlib.Core.Path.{_≡_, refl, sym, ap}
 use mathlib.Core.Bool.{true, false}
-use Rattle.wire.specs.Answer.{Answer, gives, refused, refuseIf}
+use Rattle.wire.specs.Answer.{Answer, gives, refused}
 use Rattle.wire.proofs.Answers.{refuses, passes}
 use Rattle.wire.proofs.Refusals.{refusalOf, told-back}
 use Rattle.wire.proofs.Unique.{settled}

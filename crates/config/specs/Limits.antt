@@ -1,8 +1,8 @@
 -- The limits record of document 01: its tests, its defaults, its building, and when one leaves more room than another.
 use Prim.Native.Nat.{ℕ, _≤_}
-use mathlib.Core.Bool.{Bool, true, false}
+use mathlib.Core.Bool.{Bool, false}
 use lib.Dec.{ltb, leb}
-use Rattle.wire.specs.Answer.{Answer, gives, refused, refuseIf}
+use Rattle.wire.specs.Answer.{Answer, gives, refuseIf}
 use Rattle.wire.specs.Refusals.{toldRefusal}
 use Rattle.config.specs.declared.limit.Limit.{Limit}
 use Rattle.config.specs.declared.limit.Limit.the-variants.{Absent, AtMost}

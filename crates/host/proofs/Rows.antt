@@ -20,7 +20,7 @@ use Rattle.number.proofs.Widths.{length-bytesOf}
 use Rattle.config.specs.Limits.{defaultLimits}
 use Rattle.tree.specs.Answers.{Outcome, skipEntry}
 use Rattle.tree.proofs.Only.{skip-only}
-use Rattle.host.specs.Host.{rowOf, filled, UnknownAfter, ByType, HostAnswers, Filled, ByLength, Hosted}
+use Rattle.host.specs.Host.{rowOf, filled, UnknownAfter, ByType, HostAnswers, ByLength, Hosted}
 
 pub unknown-as : (s : List ℕ) (at d : ℕ) (m : Answer Unit) (x : Outcome) → skipEntry d 0 s at ≡ m → UnknownAfter m at x → ByType Type-of.Unknown s at d x
 unknown-as s at d m x e a = subst (λ (n : Answer Unit). UnknownAfter n at x) (sym e) a

@@ -7,12 +7,11 @@ use lib.Dec.{ltb}
 use lib.ListN.{length, drop}
 use Rattle.wire.specs.Answer.{Answer, gives, refused}
 use Rattle.wire.specs.Codes.{typeOf}
-use Rattle.wire.specs.Shapes.{shapeOf}
 use Rattle.wire.specs.declared.codes.Typed.{Typed}
 use Rattle.wire.specs.declared.codes.Typed.the-variants as Type-of
 use Rattle.number.specs.BigEndian.{bytesOf}
 use Rattle.config.specs.Limits.{defaultLimits}
-use Rattle.tree.specs.Answers.{Outcome, ended, cut-off, skipEntry, AfterEntry, SkipAnswers}
+use Rattle.tree.specs.Answers.{Outcome, ended, cut-off, skipEntry, SkipAnswers}
 use Rattle.host.specs.declared.Row.{Row}
 
 -- "refusal or 0, end or place, count"

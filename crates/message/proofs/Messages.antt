@@ -1,6 +1,6 @@
 -- The cases of a message's header, each from what leads to it. Assumes nothing.
 use Prim.Native.Nat.{ℕ, _+_, _<_, _≤_}
-use mathlib.Core.Path.{_≡_, refl, sym, _∙_, ap}
+use mathlib.Core.Path.{_≡_}
 use mathlib.Core.Bool.{Bool, true, false, not, cond}
 use mathlib.Core.List.{List}
 use borrow.Author.Tests.{lt-ltb, le-ltb, eq-eqb, ne-eqb}
@@ -11,13 +11,13 @@ use Rattle.wire.specs.Answer.{Answer, gives, refused, refuseIf, andThen, within
 use Rattle.wire.specs.Codes.{messageOf}
 use Rattle.wire.specs.declared.codes.TMessageType.{TMessageType}
 use Rattle.wire.specs.declared.codes.Messaged.the-variants as Message-of
-use Rattle.wire.proofs.Answers.{first-fault, goes-on, Passed, passed, Went, went}
+use Rattle.wire.proofs.Answers.{first-fault, goes-on, passed, went}
 use Rattle.number.specs.Reads.{byteAt, i32At}
 use Rattle.config.specs.declared.limit.Limit.{Limit}
 use Rattle.text.specs.declared.Span.{Span}
 use Rattle.message.specs.declared.TMessageIdentifier.{TMessageIdentifier}
 use Rattle.text.specs.Texts.{stringAt}
-use Rattle.message.specs.Messages.{messageTypeAt, message, namedAt, versionedAt, unversionedAt, messageAt, nameOf}
+use Rattle.message.specs.Messages.{messageTypeAt, message, namedAt, versionedAt, unversionedAt, messageAt}
 use Rattle.text.proofs.Texts.{Lies, string-lies}
 
 module _ (s : List ℕ) (at : ℕ) where

@@ -1,8 +1,8 @@
 -- Big-endian numbers at any width: the number of the bytes, the bytes of the number, and reading at a cursor. Assumes nothing.
 use mathlib.Core.Path.{_≡_, refl, sym, _∙_, ap}
-use mathlib.Core.List.{List, [], _∷_, _++_, append-assoc}
+use mathlib.Core.List.{List, [], _∷_, _++_}
 use Prim.Native.Nat.{ℕ, zero, suc, _+_, _*_, _/_, _%_, _^_, _<_, _≤_}
-use native.Mathlib.Nat.{mod-eq-of-lt, mod-one, pow-suc, pow-zero, add-zero, zero-add, add-assoc, mul-assoc, mul-one, add-mul}
+use native.Mathlib.Nat.{mod-eq-of-lt, mod-one, pow-suc, pow-zero, add-zero, mul-assoc}
 use native.Mathlib.Numerals.{add-one}
 use native.Mathlib.Omega.{arith}
 use lib.Arith.{mod-mul}
@@ -13,14 +13,14 @@ use mir.Val.{SFits, bits, toZ, ofZ}
 use mir.Facts.{fits-ofZ, toZ-ofZ}
 use lib.ListN.{length, getD, take, drop, length-append, length-drop}
 use lib.Seq.{take-suc, getD-drop}
-use Rattle.wire.specs.Answer.{Answer, gives, refused, andThen, within, itemAt}
+use Rattle.wire.specs.Answer.{gives, andThen, within, itemAt}
 use Rattle.wire.specs.Refusals.{toldMoved, toldRefusal}
 use Rattle.wire.specs.declared.cursor.Cursor.{Cursor}
 use Rattle.wire.specs.declared.cursor.Moved.{Moved}
 use Rattle.wire.specs.declared.cursor.Moved.the-variants as M
 use Rattle.wire.specs.declared.refusal.Refusal.{Refusal}
-use Rattle.wire.proofs.Answers.{first-fault, goes-on}
-use Rattle.wire.proofs.Within.{Inside, inside}
+use Rattle.wire.proofs.Answers.{first-fault}
+use Rattle.wire.proofs.Within.{inside}
 use Rattle.number.specs.BigEndian.{big, bytesOf}
 use Rattle.number.specs.Sums.{sumAt}
 use Rattle.number.specs.Reads.{numberAt}

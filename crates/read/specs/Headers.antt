@@ -7,7 +7,6 @@ use lib.IntN.{ℤ, pos, natAbs}
 use Rattle.wire.specs.Answer.{Answer, gives, refused, refuseIf, andThen, entry}
 use Rattle.wire.specs.Codes.{typeOf, isStop, leastSize}
 use Rattle.wire.specs.declared.codes.TType.{TType}
-use Rattle.wire.specs.declared.codes.TType.the-variants as T
 use Rattle.wire.specs.declared.codes.Typed.{Typed}
 use Rattle.wire.specs.declared.codes.Typed.the-variants as Type-of
 use Rattle.number.specs.Reads.{byteAt, i16At}

@@ -4,7 +4,7 @@ use mathlib.Core.Bool.{Bool}
 use mathlib.Core.List.{List}
 use lib.IntN.{ℤ}
 use lib.Ieee.{Float}
-use Rattle.wire.specs.Answer.{Answer, gives, refused, andThen, entry}
+use Rattle.wire.specs.Answer.{Answer, gives, refused, entry}
 use Rattle.wire.specs.declared.codes.TType.{TType}
 use Rattle.wire.specs.declared.codes.TType.the-variants as T
 use Rattle.number.specs.Reads.{boolAt, i8At, i16At, i32At, i64At, doubleAt}

@@ -1,6 +1,6 @@
 -- The entry of a skip: 2, then 20, then the value. Assumes nothing.
 use Prim.Native.Nat.{ℕ, _<_, _≤_}
-use mathlib.Core.Path.{_≡_, refl, sym, ap, subst, _∙_}
+use mathlib.Core.Path.{_≡_, sym, subst}
 use mathlib.Core.List.{List}
 use lib.ListN.{length}
 use borrow.Author.Tests.{lt-ltb, le-ltb}
@@ -8,7 +8,7 @@ use Rattle.wire.specs.Answer.{Answer, gives, refused, refuseIf}
 use Rattle.wire.specs.Shapes.{shapeOf}
 use Rattle.wire.specs.declared.codes.TType.{TType}
 use Rattle.config.specs.declared.configuration.TConfiguration.{TConfiguration}
-use Rattle.tree.specs.Answers.{Outcome, ended, cut-off, Answers, skipEntry, AfterEntry, SkipAnswers}
+use Rattle.tree.specs.Answers.{Outcome, skipEntry, AfterEntry, SkipAnswers}
 
 module _ (c : TConfiguration) (s : List ℕ) (at d sd : ℕ) (t : TType) where
   -- what the entry answers decides which claim is made

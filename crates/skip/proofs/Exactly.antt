@@ -1,11 +1,11 @@
 -- Demand 2: the skip accepts exactly where a value of that type stands, and ends where it ends; it refuses exactly as the cut tree says; and no two
 -- answers meet its promise. Assumes nothing.
 use Prim.Native.Nat.{ℕ, _≤_}
-use mathlib.Core.Path.{_≡_, refl, sym, ap, subst, _∙_}
+use mathlib.Core.Path.{_≡_, sym, ap, subst, _∙_}
 use mathlib.Core.Logic.{_↔_}
 use mathlib.Core.List.{List}
 use lib.ListN.{length}
-use Rattle.wire.specs.Answer.{Answer, gives}
+use Rattle.wire.specs.Answer.{Answer}
 use Rattle.wire.specs.Refusals.{kindNumber}
 use Rattle.wire.specs.Shapes.{shapeOf}
 use Rattle.wire.specs.declared.codes.TType.{TType}

@@ -1,8 +1,7 @@
 -- The answers that are no loop's. Assumes nothing.
 use Prim.Native.Nat.{ℕ, _<_}
-use mathlib.Core.Path.{_≡_, refl, sym, ap, subst, _∙_}
+use mathlib.Core.Path.{_≡_, refl, sym, ap, subst}
 use mathlib.Core.List.{List}
-use lib.ListN.{length}
 use native.Mathlib.Omega.{arith}
 use Rattle.wire.specs.Answer.{Answer, gives, refused, within}
 use Rattle.wire.specs.Shapes.{shapeOf}
@@ -14,7 +13,7 @@ use Rattle.config.specs.declared.configuration.TConfiguration.{TConfiguration}
 use Rattle.number.proofs.Widths.{Octets}
 use Rattle.text.specs.Texts.{bytesAt}
 use Rattle.text.specs.declared.Span.{Span}
-use Rattle.tree.specs.Answers.{Outcome, ended, cut-off, judged, Answers}
+use Rattle.tree.specs.Answers.{Outcome, cut-off, judged, Answers}
 use Rattle.tree.proofs.Heads.{clash}
 use Rattle.tree.proofs.Steps as steps
 use Rattle.skip.specs.Told.{leafOutcome}

@@ -1,17 +1,17 @@
 -- Demand 3: more room never alters an answer. Two skips, from one start not past the end and at one struct depth, the second with more depth (to 127),
 -- limits raised or removed, and bytes appended. Assumes nothing.
 use Prim.Native.Nat.{ℕ, _≤_, _<_}
-use mathlib.Core.Path.{_≡_, refl, sym, ap, subst, _∙_}
+use mathlib.Core.Path.{_≡_, sym, subst, _∙_}
 use mathlib.Core.List.{List, _++_}
 use lib.ListN.{length, length-append}
 use native.Mathlib.Decide.{decLt}
 use native.Mathlib.Omega.{arith}
-use Rattle.wire.specs.Answer.{Answer, refused}
+use Rattle.wire.specs.Answer.{Answer}
 use Rattle.wire.specs.Shapes.{shapeOf}
 use Rattle.wire.specs.declared.codes.TType.{TType}
 use Rattle.config.specs.Limits.{Roomier}
 use Rattle.config.specs.declared.configuration.TConfiguration.{TConfiguration}
-use Rattle.tree.specs.Answers.{Outcome, ended, cut-off, AfterEntry, SkipAnswers}
+use Rattle.tree.specs.Answers.{ended, cut-off, AfterEntry}
 use Rattle.tree.specs.Room.{Unnamed}
 use Rattle.tree.proofs.Heads.{clash}
 use Rattle.tree.proofs.MoreRoom.{stands-more, is-cut-more}

@@ -1,14 +1,13 @@
 -- The size in a container's header is not negative, so its bits are the number itself. Assumes nothing.
 use Prim.Native.Nat.{ℕ, _+_}
-use mathlib.Core.Path.{_≡_, sym, ap, _∙_}
+use mathlib.Core.Path.{_≡_, ap, _∙_}
 use mathlib.Core.List.{List}
 use lib.IntN.{ℤ, natAbs}
 use mir.Syntax.{w32}
 use mir.Val.{ofZ}
 use Rattle.wire.specs.Answer.{gives}
 use Rattle.wire.specs.Codes.{leastSize}
-use Rattle.wire.specs.declared.codes.TType.{TType}
-use Rattle.wire.proofs.Answers.{Passed, passed, Went, went}
+use Rattle.wire.proofs.Answers.{passed, went}
 use Rattle.config.specs.declared.configuration.TConfiguration.{TConfiguration}
 use Rattle.text.specs.Texts.{sizeAt}
 use Rattle.text.proofs.Texts.{size-bits}

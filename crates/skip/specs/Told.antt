@@ -1,5 +1,4 @@
 -- What the skip's answers tell.
-use Prim.Native.Nat.{ℕ}
 use Rattle.wire.specs.Answer.{Answer, gives, refused}
 use Rattle.wire.specs.Refusals.{kindNumber}
 use Rattle.tree.specs.Answers.{Outcome, ended, cut-off}

@@ -11,7 +11,7 @@ use mir.Val.{ofZ}
 use lib.Signed.{ltZ}
 use lib.ListN.{length}
 use Rattle.wire.specs.Answer.{Answer, gives, refused, refuseIf, andThen, within}
-use Rattle.wire.proofs.Answers.{first-fault, goes-on, Passed, passed, Went, went}
+use Rattle.wire.proofs.Answers.{first-fault, goes-on, passed, went}
 use Rattle.number.specs.Reads.{i32At}
 use Rattle.config.specs.Limits.{above}
 use Rattle.config.specs.declared.limit.Limit.{Limit}

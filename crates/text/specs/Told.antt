@@ -1,5 +1,4 @@
 -- What each answer of this crate tells.
-use Prim.Native.Nat.{ℕ}
 use Rattle.wire.specs.Answer.{Answer, gives}
 use Rattle.wire.specs.Refusals.{toldRefusal}
 use Rattle.text.specs.declared.Span.{Span}

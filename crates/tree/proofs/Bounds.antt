@@ -1,22 +1,20 @@
 -- The count's bounds: a tree has at least one value and no more values than bytes; a value that is cut off has begun at most one more than
 -- there are bytes from its start to the refusal's place. Assumes nothing.
-use Prim.Native.Nat.{ℕ, _+_, _-_, _≤_, _<_}
-use mathlib.Core.Path.{_≡_, refl, sym, ap, _∙_}
-use mathlib.Core.List.{List, [], _∷_, _++_}
+use Prim.Native.Nat.{ℕ, _+_, _-_, _≤_}
+use mathlib.Core.Path.{_≡_}
+use mathlib.Core.List.{List}
 use lib.ListN.{length, length-append}
 use native.Mathlib.Omega.{arith}
 use Rattle.wire.specs.Shapes.{shapeOf}
-use Rattle.wire.specs.declared.codes.TType.{TType}
 use Rattle.wire.specs.declared.shape.Shape.{Shape}
 use Rattle.config.specs.declared.configuration.TConfiguration.{TConfiguration}
 use Rattle.number.proofs.Widths.{length-bytesOf}
 use Rattle.wire.specs.Answer.{refused}
 use Rattle.read.specs.Headers.{fieldAt}
-use Rattle.tree.specs.Part.{Part}
-use Rattle.tree.specs.Tree.{Tree, Fields, Trees, Pairs, scalar, text, struct, list, map, nil, snoc, none, then, empty, with, layout, fieldsLayout, treesLayout, pairsLayout, valuesOf, fieldsValues, treesValues, pairsValues, countOf, pairsOf, Fits, FieldsFit, TreesFit, PairsFit}
+use Rattle.tree.specs.Tree.{Tree, Fields, Trees, Pairs, scalar, text, struct, list, map, nil, snoc, none, then, empty, with, layout, fieldsLayout, treesLayout, pairsLayout, valuesOf, fieldsValues, treesValues, pairsValues, Fits, FieldsFit, TreesFit, PairsFit}
 use Rattle.tree.specs.Answers.{Cut, here, head, field-value, element, key, value, begunOf, ownAt, Faults, Stands, IsCut}
 use Rattle.tree.proofs.Parts.{part-length}
-use Rattle.tree.proofs.Heads.{FieldIs, field-is, list-from, map-from}
+use Rattle.tree.proofs.Heads.{field-is, list-from, map-from}
 use Rattle.tree.proofs.Places.{own-later, field-later}
 
 module _ (c : TConfiguration) where

@@ -1,9 +1,9 @@
 -- More room, header by header: what a header gives it goes on giving, and what it refuses it goes on refusing unless the refusal names
 -- what was given room. Assumes nothing.
-use Prim.Native.Nat.{ℕ, _+_, _-_, _*_, _≤_, _<_}
+use Prim.Native.Nat.{ℕ, _+_, _-_, _*_, _≤_}
 use mathlib.Core.Path.{_≡_, refl, sym, ap, subst, _∙_}
 use mathlib.Core.Bool.{Bool, true, false}
-use mathlib.Core.List.{List, [], _∷_, _++_, append-nil}
+use mathlib.Core.List.{List, [], _++_, append-nil}
 use lib.IntN.{ℤ, pos, natAbs}
 use lib.Signed.{ltZ}
 use lib.Dec.{ltb, eqb}
@@ -12,25 +12,24 @@ use lib.Seq.{take-append-le, drop-append-le}
 use mir.Syntax.{w16, w32}
 use mir.Val.{toZ}
 use native.Mathlib.Omega.{arith}
-use borrow.Author.Tests.{le-ltb, lt-ltb, ltb-false, ltb-true, eq-eqb, ne-eqb, eqb-false, eqb-true}
+use borrow.Author.Tests.{le-ltb, ltb-false, ne-eqb, eqb-false}
 use Rattle.wire.specs.Answer.{Answer, gives, refused, refuseIf, andThen, within, itemAt}
-use Rattle.wire.specs.Codes.{typeOf, isStop, leastSize}
+use Rattle.wire.specs.Codes.{isStop, leastSize}
 use Rattle.wire.specs.declared.codes.TType.{TType}
 use Rattle.wire.specs.declared.shape.Shape.{Shape}
 use Rattle.wire.specs.declared.shape.Shape.the-variants as Sh
-use Rattle.wire.proofs.Answers.{Passed, passed, Went, went}
-use Rattle.wire.proofs.Within.{Inside, inside}
-use Rattle.number.specs.BigEndian.{big}
+use Rattle.wire.proofs.Answers.{passed, went}
+use Rattle.wire.proofs.Within.{inside}
 use Rattle.number.specs.Reads.{numberAt, byteAt, i16At, i32At}
 use Rattle.config.specs.Limits.{above, reached, Raised, Roomier}
 use Rattle.config.specs.declared.limit.Limit.{Limit}
 use Rattle.config.specs.declared.configuration.TConfiguration.{TConfiguration}
 use Rattle.config.proofs.Room.{still-within, still-below}
-use Rattle.text.specs.Texts.{span, sizeAt, sizedAt, bytesAt}
-use Rattle.read.specs.Headers.{known, typeAt, field, stopOr, fieldAt, countAt, list, listAt, map, mapAt, structBeginAt}
+use Rattle.text.specs.Texts.{sizeAt, sizedAt, bytesAt}
+use Rattle.read.specs.Headers.{typeAt, field, stopOr, fieldAt, countAt, listAt, mapAt, structBeginAt}
 use Rattle.tree.specs.Answers.{judged, shapeOwn, ownAt}
 use Rattle.tree.specs.Room.{Unnamed}
-use Rattle.tree.proofs.Heads.{clash, NumberIs, number-is, TypeIs, type-is}
+use Rattle.tree.proofs.Heads.{clash, number-is, type-is}
 
 pub record Grows {A : Type 0} (K : ℕ → Type 0) (m m' : Answer A) : Type 0 where
   pub given : (v : A) (q : ℕ) → gives v q ≡ m → gives v q ≡ m'

@@ -1,9 +1,9 @@
 -- What the headers of `read` say of the bytes, and what the bytes of a tree say to them. Assumes nothing.
-use Prim.Native.Nat.{ℕ, _+_, _-_, _*_, _^_, _≤_, _<_}
-use mathlib.Core.Path.{_≡_, refl, sym, ap, subst, subst₂, subst₃, _∙_}
+use Prim.Native.Nat.{ℕ, _+_, _*_, _≤_, _<_}
+use mathlib.Core.Path.{_≡_, refl, sym, ap, subst₂, subst₃, _∙_}
 use mathlib.Core.Bool.{Bool, true, false}
 use mathlib.Core.List.{List, [], _∷_, _++_}
-use lib.IntN.{ℤ, pos, negsuc, natAbs}
+use lib.IntN.{ℤ, pos, natAbs}
 use lib.Signed.{ltZ}
 use lib.ListN.{length, getD, take, drop, length-drop}
 use lib.Dec.{ltb, eqb}
@@ -13,22 +13,21 @@ use mir.Val.{toZ}
 use mir.ValLaws.{toZ-pos}
 use native.Mathlib.Decide.{decLt}
 use native.Mathlib.Omega.{arith}
-use borrow.Author.Tests.{le-ltb, ltb-false, eqb-true, eqb-false, eq-eqb, ne-eqb}
-use Rattle.wire.specs.Answer.{Answer, gives, refused, refuseIf, andThen, within, itemAt}
+use borrow.Author.Tests.{le-ltb, ltb-false, eqb-true, eqb-false}
+use Rattle.wire.specs.Answer.{Answer, gives, refused, andThen, within, itemAt}
 use Rattle.wire.specs.Codes.{typeByte, typeOf, isStop, leastSize}
 use Rattle.wire.specs.declared.codes.TType.{TType}
 use Rattle.wire.specs.declared.codes.Typed.{Typed}
 use Rattle.wire.specs.declared.codes.Typed.the-variants as Type-of
-use Rattle.wire.proofs.Answers.{Passed, passed, Went, went, goes-on}
+use Rattle.wire.proofs.Answers.{passed, went}
 use Rattle.wire.proofs.RoundTrips.{type-read}
-use Rattle.wire.proofs.Within.{Inside, inside, whole}
+use Rattle.wire.proofs.Within.{inside}
 use Rattle.number.specs.BigEndian.{big, bytesOf}
 use Rattle.number.specs.Reads.{numberAt, byteAt, i16At, i32At}
-use Rattle.number.proofs.Widths.{Octets, read-written, written, length-bytesOf}
+use Rattle.number.proofs.Widths.{Octets, read-written}
 use Rattle.config.specs.Limits.{above, reached}
-use Rattle.config.specs.declared.limit.Limit.{Limit}
 use Rattle.config.specs.declared.configuration.TConfiguration.{TConfiguration}
-use Rattle.text.specs.Texts.{span, sizeAt, sizedAt, bytesAt}
+use Rattle.text.specs.Texts.{sizeAt, sizedAt, bytesAt}
 use Rattle.text.specs.declared.Span.{Span}
 use Rattle.wire.specs.declared.codes.TType.the-variants as T
 use Rattle.read.specs.declared.container.TListIdentifier.{TListIdentifier}
@@ -37,7 +36,7 @@ use Rattle.read.specs.declared.field.TFieldIdentifier.{TFieldIdentifier}
 use Rattle.read.specs.Headers.{known, typeAt, field, stopOr, fieldAt, countAt, list, listAt, map, mapAt, structBeginAt}
 use Rattle.tree.specs.Part.{Part}
 use Rattle.tree.specs.Tree.{Reads, TextFits, SizeFits}
-use Rattle.tree.proofs.Parts.{part-run, part-to, part-is, part-join, part-length, Split, part-split}
+use Rattle.tree.proofs.Parts.{part-run, part-to, part-is, part-join, part-length}
 
 -- 0 is not 1: what `cc` derives from two constructors that are equal
 pub clash : {A : Type 0} → _≡_ {A = ℕ} 0 1 → A

@@ -1,24 +1,22 @@
 -- Demand 3: with more depth, limits raised or removed and bytes appended, what stands goes on standing, with the same end and count, and what
 -- is cut off stays cut off, with the same number, place and count, unless the refusal names what was given room. Assumes nothing.
-use Prim.Native.Nat.{ℕ, _+_, _-_, _*_, _≤_, _<_}
-use mathlib.Core.Path.{_≡_, refl, sym, ap, _∙_}
+use Prim.Native.Nat.{ℕ, _+_, _-_, _*_, _≤_}
+use mathlib.Core.Path.{refl, ap}
 use mathlib.Core.List.{List, _++_}
-use lib.ListN.{length, length-append}
+use lib.ListN.{length}
 use native.Mathlib.Omega.{arith}
 use Rattle.wire.specs.Codes.{leastSize}
 use Rattle.wire.specs.Shapes.{shapeOf}
-use Rattle.wire.specs.declared.codes.TType.{TType}
 use Rattle.wire.specs.declared.shape.Shape.{Shape}
 use Rattle.config.specs.Limits.{Roomier}
 use Rattle.config.specs.declared.configuration.TConfiguration.{TConfiguration}
 use Rattle.config.proofs.Room.{still-within, still-below}
-use Rattle.tree.specs.Part.{Part}
 use Rattle.tree.specs.Tree.{Tree, Fields, Trees, Pairs, scalar, text, struct, list, map, nil, snoc, none, then, empty, with, TextFits, SizeFits, Fits, FieldsFit, TreesFit, PairsFit}
 use Rattle.tree.specs.Answers.{Cut, here, head, field-value, element, key, value, Faults, Stands, IsCut}
 use Rattle.tree.specs.Room.{Unnamed}
 use Rattle.tree.proofs.Parts.{part-longer}
-use Rattle.tree.proofs.Heads.{FieldIs, field-is}
-use Rattle.tree.proofs.Growth.{Grows, field-grows, list-grows, map-grows, struct-grows, own-grows}
+use Rattle.tree.proofs.Heads.{field-is}
+use Rattle.tree.proofs.Growth.{field-grows, list-grows, map-grows, struct-grows, own-grows}
 
 module _ (old new : TConfiguration) (r : Roomier old new) where
   text-more : (n : ℕ) → TextFits old n → TextFits new n

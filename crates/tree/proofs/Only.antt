@@ -1,35 +1,29 @@
 -- No two answers meet the relation: each answer is what the model gives. Assumes nothing.
 use Prim.Native.Nat.{ℕ, zero, suc, _+_, _-_, _≤_, _<_}
 use mathlib.Core.Path.{_≡_, refl, sym, ap, _∙_}
-use mathlib.Core.Bool.{Bool, true, false}
+use mathlib.Core.Bool.{true, false}
 use mathlib.Core.List.{List, [], _∷_, _++_}
 use lib.IntN.{ℤ, pos, natAbs}
 use lib.ListN.{length, length-append}
-use lib.Dec.{eqb}
-use mir.Syntax.{w16}
-use mir.Val.{toZ}
 use native.Mathlib.Omega.{arith}
 use borrow.Author.Tests.{ne-eqb}
 use Rattle.wire.specs.Answer.{Answer, gives, refused, refuseIf, within}
-use Rattle.wire.specs.Codes.{typeByte, isStop, leastSize}
+use Rattle.wire.specs.Codes.{typeByte, isStop}
 use Rattle.wire.specs.Shapes.{shapeOf}
 use Rattle.wire.specs.declared.codes.TType.{TType}
 use Rattle.wire.specs.declared.codes.TType.the-variants as T
 use Rattle.wire.specs.declared.shape.Shape.{Shape}
 use Rattle.wire.specs.declared.shape.Shape.the-variants as Sh
 use Rattle.config.specs.declared.configuration.TConfiguration.{TConfiguration}
-use Rattle.number.specs.BigEndian.{big, bytesOf}
-use Rattle.text.specs.Texts.{bytesAt}
+use Rattle.number.specs.BigEndian.{bytesOf}
 use Rattle.read.specs.Headers.{field, fieldAt, list, listAt, map, mapAt, structBeginAt}
-use Rattle.read.specs.declared.container.TListIdentifier.{TListIdentifier}
-use Rattle.read.specs.declared.container.TMapIdentifier.{TMapIdentifier}
 use Rattle.tree.specs.Part.{Part}
 use Rattle.tree.specs.Tree.{Tree, Fields, Trees, Pairs, scalar, text, struct, list as list-of, map as map-of, nil, snoc, none, then, empty, with, layout, fieldsLayout, treesLayout, pairsLayout, valuesOf, fieldsValues, treesValues, pairsValues, countOf, pairsOf, Fits, FieldsFit, TreesFit, PairsFit}
-use Rattle.tree.specs.Answers.{Outcome, ended, cut-off, judged, shapeOwn, ownAt, Cut, here, head, field-value, element, key, value, begunOf, Faults, Stands, IsCut, Answers, skipEntry, AfterEntry, SkipAnswers}
-use Rattle.tree.proofs.Parts.{Split, part-split, part-length}
+use Rattle.tree.specs.Answers.{Outcome, ended, cut-off, judged, shapeOwn, ownAt, Cut, here, head, field-value, element, key, value, begunOf, Faults, Answers, skipEntry, AfterEntry, SkipAnswers}
+use Rattle.tree.proofs.Parts.{part-split, part-length}
 use Rattle.tree.proofs.Heads.{clash}
 use Rattle.tree.proofs.Reading.{part-within, text-reads, list-reads, map-reads, field-reads, stop-reads, struct-reads}
-use Rattle.tree.proofs.Model.{after, leaf, elements, stopStep, fieldStep, fields, pairs, listStep, mapStep, structStep, byShape, skipAs, childOf, skip-deep}
+use Rattle.tree.proofs.Model.{leaf, elements, fields, pairs, listStep, mapStep, structStep, byShape, skipAs, childOf, skip-deep}
 
 -- ---- one step of each loop of the model
 

@@ -1,10 +1,10 @@
 -- The laws of `Part`: where parts begin, how they join, and that more bytes behind them change nothing.
 -- Assumes nothing.
-use Prim.Native.Nat.{ℕ, zero, suc, _+_, _-_, _≤_, _<_, _*_, _/_, _%_}
-use mathlib.Core.Path.{_≡_, refl, sym, ap, ap₂, subst, _∙_}
+use Prim.Native.Nat.{ℕ, _+_, _-_, _≤_, _<_}
+use mathlib.Core.Path.{_≡_, sym, ap, ap₂, subst, _∙_}
 use mathlib.Core.List.{List, [], _∷_, _++_}
 use lib.ListN.{length, getD, take, drop, length-append, length-take, length-drop}
-use lib.Seq.{take-take, take-append-seam, drop-append-seam, drop-at, length-take-le, take-add, drop-drop, drop-cons, take-append-le, drop-append-le, getD-take, getD-drop}
+use lib.Seq.{take-take, take-append-seam, drop-append-seam, drop-at, length-take-le, take-add, drop-drop, drop-cons, take-append-le, drop-append-le}
 use native.Mathlib.Omega.{arith}
 use native.Mathlib.Nat.{add-sub-cancel-left, sub-self}
 use Rattle.tree.specs.Part.{Part}

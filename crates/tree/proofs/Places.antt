@@ -1,13 +1,13 @@
 -- A header's refusal never lies before the header. Assumes nothing.
-use Prim.Native.Nat.{ℕ, _+_, _-_, _*_, _≤_, _<_}
-use mathlib.Core.Path.{_≡_, refl, sym, ap, _∙_}
+use Prim.Native.Nat.{ℕ, _+_, _≤_}
+use mathlib.Core.Path.{_≡_, refl}
 use mathlib.Core.Bool.{Bool, true, false}
 use mathlib.Core.List.{List}
 use lib.IntN.{ℤ, pos, natAbs}
 use lib.Signed.{ltZ}
 use mir.Syntax.{w16, w32}
 use mir.Val.{toZ}
-use native.Mathlib.Nat.{le-refl, le-trans}
+use native.Mathlib.Nat.{le-trans}
 use native.Mathlib.Omega.{arith}
 use Rattle.wire.specs.Answer.{Answer, gives, refused, refuseIf, andThen, within, itemAt}
 use Rattle.wire.specs.Codes.{typeOf, isStop, leastSize}
@@ -16,16 +16,14 @@ use Rattle.wire.specs.declared.codes.Typed.{Typed}
 use Rattle.wire.specs.declared.codes.Typed.the-variants as Type-of
 use Rattle.wire.specs.declared.shape.Shape.{Shape}
 use Rattle.wire.specs.declared.shape.Shape.the-variants as Sh
-use Rattle.wire.proofs.Answers.{Passed, passed, Went, went}
+use Rattle.wire.proofs.Answers.{passed, went}
 use Rattle.number.specs.Reads.{numberAt, byteAt, i16At, i32At}
-use Rattle.config.specs.Limits.{above}
 use Rattle.config.specs.declared.limit.Limit.{Limit}
 use Rattle.config.specs.declared.configuration.TConfiguration.{TConfiguration}
-use Rattle.text.specs.Texts.{span, sizeAt, sizedAt, bytesAt}
+use Rattle.text.specs.Texts.{sizeAt, sizedAt}
 use Rattle.read.specs.Headers.{known, typeAt, field, stopOr, fieldAt, countAt, listAt, mapAt, structBeginAt}
-use Rattle.read.specs.declared.field.TFieldIdentifier.{TFieldIdentifier}
 use Rattle.tree.specs.Answers.{judged, shapeOwn, ownAt}
-use Rattle.tree.proofs.Heads.{clash, NumberIs, number-is, TypeIs, type-is}
+use Rattle.tree.proofs.Heads.{clash, number-is, type-is}
 
 -- an answer whose refusals lie at a place or behind it
 abbrev pub Later : {A : Type 0} → ℕ → Answer A → Type 0

@@ -1,35 +1,33 @@
 -- What the bytes of a tree say to the headers of `read`: where the bytes of a header stand, the read gives that header. Assumes nothing.
-use Prim.Native.Nat.{ℕ, _+_, _-_, _*_, _%_, _^_, _≤_, _<_, zero-le}
-use mathlib.Core.Path.{_≡_, refl, sym, ap, subst, _∙_}
-use mathlib.Core.Bool.{Bool, true, false}
+use Prim.Native.Nat.{ℕ, _+_, _-_, _≤_, _<_, zero-le}
+use mathlib.Core.Path.{_≡_, refl, sym, ap, _∙_}
+use mathlib.Core.Bool.{false}
 use mathlib.Core.List.{List, [], _∷_, _++_}
-use lib.IntN.{ℤ, pos, natAbs}
-use lib.Signed.{ltZ}
+use lib.IntN.{ℤ, pos}
 use lib.ListN.{length, take, drop}
-use lib.Dec.{lit<}
 use mir.Syntax.{w16, w32}
 use mir.Val.{toZ}
 use mir.ValLaws.{toZ-pos}
 use native.Mathlib.Nat.{mod-eq-of-lt}
 use native.Mathlib.Omega.{arith}
 use borrow.Author.Tests.{le-ltb}
-use Rattle.wire.specs.Answer.{Answer, gives, refuseIf, andThen, within, itemAt}
-use Rattle.wire.specs.Codes.{typeByte, typeOf, isStop, leastSize}
+use Rattle.wire.specs.Answer.{gives, andThen, within, itemAt}
+use Rattle.wire.specs.Codes.{typeByte, isStop, leastSize}
 use Rattle.wire.specs.declared.codes.TType.{TType}
 use Rattle.wire.specs.declared.codes.TType.the-variants as T
 use Rattle.wire.proofs.Within.{whole}
 use Rattle.number.specs.BigEndian.{big, bytesOf}
-use Rattle.number.specs.Reads.{numberAt, byteAt, i16At, i32At}
+use Rattle.number.specs.Reads.{numberAt, byteAt, i32At}
 use Rattle.number.proofs.Widths.{written, length-bytesOf}
 use Rattle.config.specs.Limits.{reached}
 use Rattle.config.specs.declared.configuration.TConfiguration.{TConfiguration}
-use Rattle.text.specs.Texts.{span, sizeAt, sizedAt, bytesAt}
+use Rattle.text.specs.Texts.{span, sizeAt, bytesAt}
 use Rattle.text.proofs.Texts as texts
 use Rattle.read.specs.Headers.{typeAt, field, fieldAt, countAt, list, listAt, map, mapAt, structBeginAt}
 use Rattle.read.proofs.Headers as headers
 use Rattle.tree.specs.Part.{Part}
 use Rattle.tree.specs.Tree.{Reads, TextFits, SizeFits}
-use Rattle.tree.proofs.Parts.{part-to, part-length, Split, part-split}
+use Rattle.tree.proofs.Parts.{part-length, part-split}
 
 -- so many bytes that are a part are there
 pub part-within : {s : List ℕ} {at e : ℕ} (b : List ℕ) (w : ℕ) → length b ≡ w → Part s at e b → gives tt e ≡ within s at w

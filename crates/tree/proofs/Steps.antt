@@ -2,20 +2,19 @@
 -- Assumes nothing.
 use Prim.Native.Nat.{ℕ, _+_, _-_, _≤_, _<_, zero-le}
 use mathlib.Core.Path.{_≡_, refl, sym, ap, subst, _∙_}
-use mathlib.Core.Bool.{Bool, true, false}
-use mathlib.Core.List.{List, [], _∷_, _++_}
-use lib.ListN.{length, getD, take, drop, length-take, length-drop}
+use mathlib.Core.Bool.{true, false}
+use mathlib.Core.List.{List, _∷_}
+use lib.ListN.{length, take, drop, length-take, length-drop}
 use lib.IntN.{ℤ, natAbs}
 use native.Mathlib.Omega.{arith}
 use borrow.Author.Tests.{ne-eqb, eq-eqb}
-use Rattle.wire.specs.Answer.{Answer, gives, refused, refuseIf, within}
+use Rattle.wire.specs.Answer.{gives, refused, refuseIf, within}
 use Rattle.wire.specs.Codes.{typeByte, isStop, leastSize}
 use Rattle.wire.specs.Shapes.{shapeOf}
 use Rattle.wire.specs.declared.codes.TType.{TType}
-use Rattle.wire.specs.declared.codes.TType.the-variants as T
 use Rattle.wire.specs.declared.shape.Shape.{Shape}
 use Rattle.wire.specs.declared.shape.Shape.the-variants as Sh
-use Rattle.wire.proofs.Within.{Inside, inside}
+use Rattle.wire.proofs.Within.{inside}
 use Rattle.config.specs.declared.configuration.TConfiguration.{TConfiguration}
 use Rattle.number.specs.BigEndian.{bytesOf}
 use Rattle.number.proofs.Widths.{Octets}
@@ -23,11 +22,11 @@ use Rattle.text.specs.Texts.{bytesAt}
 use Rattle.text.specs.declared.Span.{Span}
 use Rattle.read.specs.Headers.{field, fieldAt, list, listAt, map, mapAt, structBeginAt}
 use Rattle.tree.specs.Part.{Part}
-use Rattle.tree.specs.Tree.{Tree, Fields, Trees, Pairs, scalar, text, struct, list as list-of, map as map-of, nil, snoc, none, then, empty, with, layout, fieldsLayout, treesLayout, pairsLayout, valuesOf, fieldsValues, treesValues, pairsValues, countOf, pairsOf, SizeFits, Fits, FieldsFit, TreesFit, PairsFit}
-use Rattle.tree.specs.Answers.{judged, shapeOwn, ownAt, Cut, here, head, field-value, element, key, value, begunOf, Faults, Stands, IsCut}
-use Rattle.tree.proofs.Parts.{part-none, part-to, part-is, part-join, part-length}
-use Rattle.tree.proofs.Heads.{clash, within-part, TextIs, text-is, FieldIs, field-is, stop-is, ListIs, list-is, MapIs, map-is, StructIs, struct-is}
-use Rattle.tree.proofs.Bounds.{fields-le, trees-le, pairs-le, stands-count}
+use Rattle.tree.specs.Tree.{Fields, Trees, Pairs, scalar, text, struct, list as list-of, map as map-of, nil, snoc, none, then, empty, with, layout, fieldsLayout, treesLayout, pairsLayout, valuesOf, fieldsValues, treesValues, pairsValues, countOf, pairsOf, SizeFits, Fits, FieldsFit, TreesFit, PairsFit}
+use Rattle.tree.specs.Answers.{shapeOwn, ownAt, here, head, field-value, element, key, value, begunOf, Faults, Stands, IsCut}
+use Rattle.tree.proofs.Parts.{part-none, part-is, part-join, part-length}
+use Rattle.tree.proofs.Heads.{within-part, text-is, field-is, stop-is, list-is, map-is, struct-is}
+use Rattle.tree.proofs.Bounds.{fields-le, trees-le, pairs-le}
 
 module _ (c : TConfiguration) (s : List ℕ) (at d sd : ℕ) where
   -- ---- a value that is refused by itself, and one with no value in it

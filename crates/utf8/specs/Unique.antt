@@ -1,5 +1,5 @@
 -- A text is characters in one way only, so the place that `valid_up_to` answers is the only one that its contract allows. Assumes nothing.
-use Prim.Native.Nat.{ℕ, _+_, _<_, _≤_, zero-le}
+use Prim.Native.Nat.{ℕ, _<_, _≤_, zero-le}
 use mathlib.Core.Path.{_≡_, refl, sym, _∙_, ap}
 use mathlib.Core.Bool.{cond}
 use mathlib.Core.List.{List, [], _∷_, _++_, append-assoc, append-nil}
@@ -12,7 +12,6 @@ use lib.Seq.{take-append-seam, drop-append-seam, length-take-le}
 use Rattle.utf8.specs.Utf8.{Char, Text, Nothing, ValidUpTo}
 use Rattle.utf8.specs.Utf8.Char.{one, two, three-low, three-high, four}
 use Rattle.utf8.specs.Utf8.Text.{empty, more}
-use Rattle.utf8.specs.Fronts.{no-bytes}
 
 -- how many bytes a character has, by its first
 lead : ℕ → ℕ

@@ -1,9 +1,8 @@
 -- A refusal is known by its number and place. Assumes nothing.
 use Prim.Native.Nat.{ℕ}
-use mathlib.Core.Path.{_≡_, refl, sym, _∙_, ap}
+use mathlib.Core.Path.{_≡_, refl, ap}
 use mathlib.Core.List.{List, [], _∷_}
 use lib.ListN.{getD}
-use Rattle.wire.specs.Answer.{Answer, gives, refused}
 use Rattle.wire.specs.Refusals.{kindNumber}
 use Rattle.wire.specs.declared.refusal.Refusal.{Refusal}
 use Rattle.wire.specs.declared.refusal.Kind.{Kind}

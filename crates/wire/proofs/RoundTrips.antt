@@ -1,5 +1,5 @@
 -- The codes: what is written reads back, and what is read is written so. Assumes nothing.
-use Prim.Native.Nat.{ℕ, zero, suc}
+use Prim.Native.Nat.{ℕ}
 use mathlib.Core.Path.{_≡_, refl, subst}
 use native.Mathlib.Nat.{zero-add}
 use borrow.Author.Needs.{needs}

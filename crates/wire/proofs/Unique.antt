@@ -1,5 +1,4 @@
 -- Why no two answers meet a promise: an answer can be had back from what it tells. Assumes nothing.
-use Prim.Native.Nat.{ℕ}
 use mathlib.Core.Path.{_≡_, refl, sym, _∙_, ap}
 use Rattle.wire.specs.Answer.{Answer, gives, refused}
 use Rattle.wire.specs.Refusals.{toldMoved}

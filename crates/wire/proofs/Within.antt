@@ -1,13 +1,13 @@
 -- The cases of `within`, each from the tests that lead to it, and what an accepted one tells. Assumes nothing.
-use mathlib.Core.Path.{_≡_, refl, sym, _∙_}
+use mathlib.Core.Path.{_≡_}
 use mathlib.Core.List.{List}
 use Prim.Native.Nat.{ℕ, _+_, _-_, _<_, _≤_}
 use native.Mathlib.Omega.{arith}
 use borrow.Author.Tests.{lt-ltb, le-ltb, ltb-false}
 use lib.Dec.{ltb}
-use lib.ListN.{length, take, drop}
+use lib.ListN.{length}
 use Rattle.wire.specs.Answer.{gives, refused, refuseIf, within, stayAt}
-use Rattle.wire.proofs.Answers.{Passed, passed}
+use Rattle.wire.proofs.Answers.{passed}
 
 -- so many bytes lie inside, and the place after them is as many on
 pub record Inside (s : List ℕ) (at w p : ℕ) : Type 0 where

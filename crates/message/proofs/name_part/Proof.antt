@@ -1,6 +1,6 @@
 -- Assumes nothing.
 use borrow.Author.Needs.{needs}
-use mathlib.Core.Path.{ap, _∙_}
+use mathlib.Core.Path.{ap}
 use Rattle.wire.proofs.Answers.{told-as}
 use Rattle.text.specs.Texts.{partOf}
 use Rattle.message.specs.Messages.{nameOf}

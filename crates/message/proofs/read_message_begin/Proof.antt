@@ -4,7 +4,7 @@ use native.Mathlib.Omega.{arith}
 use mathlib.Core.Path.{ap, _∙_}
 use Rattle.wire.proofs.Answers.{told-as}
 use Rattle.wire.specs.Refusals.{toldMoved}
-use Rattle.wire.proofs.Within.{Inside, inside}
+use Rattle.wire.proofs.Within.{inside}
 use Rattle.message.specs.Told.{toldMessage}
 use Rattle.message.proofs.Messages.{no-header, not-strict, older, bad-first, bad-second, newer}
 use Rattle.message.proofs.read_message_begin.Statement.{statement}

@@ -1,6 +1,5 @@
 -- Assumes nothing.
 use native.Mathlib.Omega.{arith}
-use borrow.Author.Needs.{needs}
 use Prim.Native.Nat.{_+_, _*_, _-_}
 use Rattle.utf8.specs.Utf8.Char.{two as two-bytes}
 use Rattle.utf8.specs.Chars.{is-two}

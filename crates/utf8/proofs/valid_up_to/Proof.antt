@@ -1,5 +1,4 @@
 -- The bytes passed are a text, and each turn adds a character to it. Assumes nothing.
-use borrow.Author.Needs.{needs}
 use native.Mathlib.Omega.{arith}
 use Prim.Native.Nat.{ℕ, _-_, _≤_, zero-le}
 use mathlib.Core.List.{List}

@@ -4,9 +4,7 @@ use mathlib.Core.Path.{_≡_, sym, ap, _∙_}
 use mir.Syntax.{w32}
 use mir.Val.{toZ, ofZ}
 use lib.IntN.{natAbs}
-use Prim.Native.Nat.{ℕ, _*_}
 use Rattle.number.specs.Told.{toldI32}
-use Rattle.config.specs.Limits.{above}
 use Rattle.wire.proofs.Answers.{told-as}
 use Rattle.text.proofs.Texts.{size-bits}
 use Rattle.read.proofs.Headers.{no-count, too-many, too-large, count, product-fits}

@@ -1,10 +1,9 @@
 -- Assumes nothing.
 use borrow.Author.Needs.{needs}
-use mathlib.Core.Path.{_≡_, sym, ap, _∙_}
+use mathlib.Core.Path.{_≡_}
 use mir.Syntax.{w32}
 use mir.Val.{toZ, ofZ}
 use native.Mathlib.Omega.{arith}
-use Prim.Native.Nat.{ℕ}
 use Rattle.wire.proofs.Least.{least-small}
 use Rattle.number.specs.Told.{toldI32}
 use Rattle.read.specs.Told.{toldType}

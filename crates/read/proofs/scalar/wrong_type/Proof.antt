@@ -1,5 +1,4 @@
 -- Assumes nothing.
-use borrow.Author.Needs.{needs}
 use native.Mathlib.Omega.{arith}
 use Rattle.read.proofs.Scalars.{wrong-beyond, wrong}
 use Rattle.read.proofs.scalar.wrong_type.Statement.{statement}

@@ -4,7 +4,6 @@ use native.Mathlib.Omega.{arith}
 use mathlib.Core.Path.{refl}
 use Rattle.wire.specs.Answer.{gives, refused}
 use Rattle.tree.specs.Answers.{cut-off}
-use Rattle.skip.specs.Told.{toldWalked}
 use Rattle.skip.proofs.Entry.{after, entry-beyond, entry-depth, entry-struct-depth, entered}
 use Rattle.skip.proofs.till_depth.skip_till_depth.Statement.{statement}
 use Rattle.skip.proofs.till_depth.skip_till_depth.Tie as tie

@@ -1,8 +1,8 @@
 -- The cycle of calls. A value's skip calls those of a struct, a list and a map at the same depth, and they call it at the depth less one: so the
 -- measures are twice the depth, and one more for a value's. Assumes nothing.
-use mathlib.Core.Path.{_≡_, refl, sym, ap, subst, _∙_}
+use mathlib.Core.Path.{_≡_, sym, ap, _∙_}
 use Prim.Native.Nat.{ℕ, _+_, _-_, _<_}
-use lib.IntN.{ℤ, natAbs}
+use lib.IntN.{natAbs}
 use lib.ListN.{length}
 use mir.Syntax.{w32}
 use mir.Val.{toZ, ofZ}
@@ -20,7 +20,6 @@ use Rattle.tree.proofs.Parts.{part-length}
 use Rattle.tree.proofs.Heads.{field-is, struct-is}
 use Rattle.wire.specs.declared.shape.Shape.the-variants as Sh
 use Rattle.skip.proofs.Leaves.{fixed-some, fixed-answers, text-answers, unfit-answers, deep-answers, shape-answers}
-use Prim.Native.Nat.{ℕ, _<_}
 use borrow.Fn.Kinds.{In}
 use borrow.Fn.PlainCycle.{Measures, is, falls, and}
 use Rattle.skip.proofs.value.skip_list.Reads as skip-list

@@ -1,5 +1,4 @@
 -- Assumes nothing.
-use borrow.Author.Needs.{needs}
 use native.Mathlib.Omega.{arith}
 use Rattle.wire.proofs.Within.{stay-beyond, stays}
 use Rattle.wire.proofs.cursor.Cursor.stay.Statement.{statement}
