@@ -107,7 +107,7 @@ pub record OpenMap (c : TConfiguration) (s : List ℕ) (at d : ℕ) (sh : Shape)
   pub fits : PairsFit c (d - 1) sd (shapeOf key) (shapeOf value) ps
   pub next : rest key value mid
 
--- a tree that stands at a place, and of its end `rest` holds
+-- a value wholly passed: a tree that stands at a place, and of its end `rest` holds
 pub record Passed (c : TConfiguration) (s : List ℕ) (at d sd : ℕ) (sh : Shape) (t : Tree) (rest : ℕ → Type 0) : Type 0 where
   pub end : ℕ
   pub part : Part s at end (layout t)
@@ -125,14 +125,14 @@ Faults c s at d sd sh (key ps x) n p = OpenMap c s at d sh sd ps (λ k v m. Faul
 Faults c s at d sd sh (value ps t x) n p =
     OpenMap c s at d sh sd ps (λ k v m. Passed c s m (d - 1) sd (shapeOf k) t (λ q. Faults c s q (d - 1) sd (shapeOf v) x n p))
 
--- a value of the shape stands at the place and ends at e, and count is the number of its values
+-- Demand 2: "a value of that type stands within depth and limits, and ends where it ends", here at e; the count is the number of its values
 pub record Stands (c : TConfiguration) (s : List ℕ) (at d sd : ℕ) (sh : Shape) (e count : ℕ) : Type 0 where
   pub tree : Tree
   pub part : Part s at e (layout tree)
   pub fits : Fits c d sd sh tree
   pub counted : count ≡ valuesOf tree
 
--- a value of the shape at the place is cut off by the refusal, and count is the number of values begun
+-- "A refusal's count is defined over a tree too, cut off at the place": the refusal of number n at p, and the number of values begun
 pub record IsCut (c : TConfiguration) (s : List ℕ) (at d sd : ℕ) (sh : Shape) (n p count : ℕ) : Type 0 where
   pub cut : Cut
   pub fault : Faults c s at d sd sh cut n p

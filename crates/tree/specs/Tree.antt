@@ -41,10 +41,12 @@ mutual
     empty : Pairs
     with : Pairs → Tree → Tree → Pairs
 
+-- a list's or set's "size": how many elements follow
 unfoldable pub countOf : Trees → ℕ
 countOf none = 0
 countOf (then ts t) = countOf ts + 1
 
+-- a map's "size": how many pairs follow, "key, value, key, value"
 unfoldable pub pairsOf : Pairs → ℕ
 pairsOf empty = 0
 pairsOf (with ps k v) = pairsOf ps + 1
@@ -75,7 +77,7 @@ unfoldable mutual
   pairsLayout empty = []
   pairsLayout (with ps k v) = pairsLayout ps ++ (layout k ++ layout v)
 
--- the number of values: the value itself and those in it
+-- "The count is the number of values": the value itself and those in it
 unfoldable mutual
   pub valuesOf : Tree → ℕ
   valuesOf (scalar b) = 1
@@ -96,22 +98,23 @@ unfoldable mutual
   pairsValues empty = 0
   pairsValues (with ps k v) = pairsValues ps + (valuesOf k + valuesOf v)
 
--- a type that its byte reads as: every one but Utf7, which shares String's
+-- "Utf7 writes as 0B; 0B reads as String": a type in a header is one that its byte reads as, which is every one but Utf7
 abbrev pub Reads : TType → Type 0
 Reads t = typeOf (typeByte t) ≡ Type-of.Known t
 
--- a text: its length has 31 bits and is within the string limit
+-- a string, "its length and body, no UTF-8 check": the length is not negative (6) and within the string limit (7)
 pub record TextFits (c : TConfiguration) (n : ℕ) : Type 0 where
   pub positive : n < 2147483648
   pub string : above n (c .«max_string_size») ≡ false
 
--- a container of n elements: 31 bits, within the container limit, and its least bytes within the message limit
+-- a container of n elements: "then 6, 8, 9", by rule 9 "size times the least element size must not exceed the message limit"
 pub record SizeFits (c : TConfiguration) (least n : ℕ) : Type 0 where
   pub positive : n < 2147483648
   pub container : above n (c .«max_container_size») ≡ false
   pub message : above (n * least) (c .«max_message_size») ≡ false
 
--- "each limit at every node": a value of a shape has depth left, and what its kind asks; `inner` is said of what is in it
+-- "Its limits are those above, each at every node": a value has depth left ("depth 0 is 10") and what its shape asks; `inner` is said of what
+-- is in it. First, "a scalar or a UUID passes its bytes"
 pub record ScalarFits (d : ℕ) (sh : Shape) (b : List ℕ) : Type 0 where
   pub deep : 0 < d
   pub shape : sh ≡ Sh.Fixed (length b)
@@ -122,6 +125,7 @@ pub record StringFits (c : TConfiguration) (d : ℕ) (sh : Shape) (b : List ℕ)
   pub shape : sh ≡ Sh.Text
   pub size : TextFits c (length b)
 
+-- "a struct does the struct begin": 11 "at depth at or above the limit, or at 65,535 whatever the limit"
 pub record StructFits (c : TConfiguration) (d sd : ℕ) (sh : Shape) (inner : Type 0) : Type 0 where
   pub deep : 0 < d
   pub shape : sh ≡ Sh.Fields
@@ -129,6 +133,7 @@ pub record StructFits (c : TConfiguration) (d sd : ℕ) (sh : Shape) (inner : Ty
   pub cap : sd < 65535
   pub fields : inner
 
+-- "a container reads its header, then every element": its type byte is known (5), its size fits
 pub record ListFits (c : TConfiguration) (d : ℕ) (sh : Shape) (t : TType) (n : ℕ) (inner : Type 0) : Type 0 where
   pub deep : 0 < d
   pub shape : sh ≡ Sh.Items
@@ -136,6 +141,7 @@ pub record ListFits (c : TConfiguration) (d : ℕ) (sh : Shape) (t : TType) (n :
   pub size : SizeFits c (leastSize t) n
   pub elements : inner
 
+-- and a map's "key type (5), value type (5), size", for rule 9 "key plus value sizes"
 pub record MapFits (c : TConfiguration) (d : ℕ) (sh : Shape) (k v : TType) (n : ℕ) (inner : Type 0) : Type 0 where
   pub deep : 0 < d
   pub shape : sh ≡ Sh.Pairs
@@ -144,6 +150,7 @@ pub record MapFits (c : TConfiguration) (d : ℕ) (sh : Shape) (k v : TType) (n 
   pub size : SizeFits c (leastSize k + leastSize v) n
   pub pairs : inner
 
+-- "fields until Stop": the type byte is known and no Stop, then "a 16-bit id", then the value
 pub record FieldFits (t : TType) (id : List ℕ) (before inner : Type 0) : Type 0 where
   pub fields : before
   pub reads : Reads t
@@ -151,7 +158,7 @@ pub record FieldFits (t : TType) (id : List ℕ) (before inner : Type 0) : Type 
   pub two : length id ≡ 2
   pub value : inner
 
--- a tree of a shape fits at a depth and a struct depth: children have one less of the one, and a struct's one more of the other
+-- a tree of a shape fits at a depth and a struct depth: "each value at depth less one", and a struct's at one struct depth more
 unfoldable mutual
   pub Fits : TConfiguration → ℕ → ℕ → Shape → Tree → Type 0
   Fits c d sd sh (scalar b) = ScalarFits d sh b
