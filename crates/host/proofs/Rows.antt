@@ -3,19 +3,18 @@ use Prim.Native.Nat.{ℕ, _-_, _<_, _≤_}
 use mathlib.Core.Path.{_≡_, refl, sym, ap, subst, _∙_}
 use mathlib.Core.Bool.{Bool, true, false}
 use mathlib.Core.List.{List, _++_}
-use lib.ListN.{length, take, drop, length-append, length-take, length-drop}
-use lib.Dec.{ltb, lit≤}
+use lib.ListN.{length, take, drop, length-append}
+use lib.Dec.{ltb}
 use native.Mathlib.Omega.{arith}
 use borrow.Rule.Slice.PartMut.{putMid}
 use borrow.Author.Tests.{lt-ltb, le-ltb}
 use Rattle.wire.specs.Answer.{Answer, gives, refused}
 use Rattle.wire.specs.Codes.{typeOf}
+use Rattle.wire.specs.Writes.{laid, inFront}
+use Rattle.wire.proofs.Writes.{front-laid, piece}
 use Rattle.wire.specs.declared.codes.Typed.{Typed}
 use Rattle.wire.specs.declared.codes.Typed.the-variants as Type-of
 use Rattle.number.specs.BigEndian.{bytesOf}
-use Rattle.number.specs.Puts.{putFront}
-use Rattle.number.proofs.Fronts.{in-front}
-use Rattle.number.proofs.Laid.{appended}
 use Rattle.number.proofs.Widths.{length-bytesOf}
 use Rattle.config.specs.Limits.{defaultLimits}
 use Rattle.tree.specs.Answers.{Outcome, skipEntry}
@@ -57,20 +56,15 @@ hosted-settled s at d b old r r' new new' = go (ltb (length old) 24)
 
 -- three numbers, one behind the other
 module _ (out : List ℕ) (a b c : ℕ) (h : 24 ≤ length out) where
-  room : (k : ℕ) (d : List ℕ) → k ≤ 16 → length d ≡ length out → 8 ≤ length (take (length d - k) (drop k d))
-  room k d i l = simp (length-take, length-drop) (omega arith)
-
-  pub three-put : (d y z : List ℕ) → d ≡ putFront 8 a out → y ≡ putFront 8 b (take (length d - 8) (drop 8 d))
-      → z ≡ putFront 8 c (take (length (putMid 8 (length d - 8) d y) - 16) (drop 16 (putMid 8 (length d - 8) d y)))
+  pub three-put : (d y z : List ℕ) → d ≡ inFront (bytesOf 8 a) out → y ≡ inFront (bytesOf 8 b) (take (length d - 8) (drop 8 d))
+      → z ≡ inFront (bytesOf 8 c) (take (length (putMid 8 (length d - 8) d y) - 16) (drop 16 (putMid 8 (length d - 8) d y)))
       → putMid 16 (length (putMid 8 (length d - 8) d y) - 16) (putMid 8 (length d - 8) d y) z
       ≡ (bytesOf 8 a ++ bytesOf 8 b ++ bytesOf 8 c) ++ drop 24 out
+  unfolding laid
   three-put d y z p q r =
-      let m = putMid 8 (length d - 8) d y in
-      let e1 : d ≡ bytesOf 8 a ++ drop 8 out = p ∙ sym (in-front 8 a out (omega arith)) in
-      let l1 : length d ≡ length out = ap length e1 ∙ simp (length-append, length-bytesOf, length-drop) (omega arith) in
-      let f2 : y ≡ bytesOf 8 b ++ drop 8 (take (length d - 8) (drop 8 d)) = q ∙ sym (in-front 8 b _ (room 8 d (lit≤ tt) l1)) in
-      let e2 : m ≡ (bytesOf 8 a ++ bytesOf 8 b) ++ drop 16 out =
-      appended out (bytesOf 8 a) (bytesOf 8 b) 8 8 (length-bytesOf 8 a) (length-bytesOf 8 b) e1 f2 in
-      let l2 : length m ≡ length out = ap length e2 ∙ simp (length-append, length-bytesOf, length-drop) (omega arith) in
-      let f3 : z ≡ bytesOf 8 c ++ drop 8 (take (length m - 16) (drop 16 m)) = r ∙ sym (in-front 8 c _ (room 16 m (lit≤ tt) l2)) in
-      appended out (bytesOf 8 a ++ bytesOf 8 b) (bytesOf 8 c) 16 8 (simp (length-append, length-bytesOf)) (length-bytesOf 8 c) e2 f3
+      let one : length (bytesOf 8 a) ≡ 8 = length-bytesOf 8 a in
+      let two : length (bytesOf 8 a ++ bytesOf 8 b) ≡ 16 = simp (length-append, length-bytesOf) in
+      let three : length (bytesOf 8 a ++ bytesOf 8 b ++ bytesOf 8 c) ≡ 24 = simp (length-append, length-bytesOf) in
+      let first = p ∙ front-laid (bytesOf 8 a) out (omega arith) in
+      let second = piece out 0 (bytesOf 8 a) (bytesOf 8 b) 8 (omega arith) (omega arith) first q in
+      piece out 0 (bytesOf 8 a ++ bytesOf 8 b) (bytesOf 8 c) 16 (omega arith) (omega arith) second r ∙ rw three

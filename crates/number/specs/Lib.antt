@@ -1,5 +1,4 @@
 pub mod BigEndian
-pub mod Puts
 pub mod Reads
 pub mod Sums
 pub mod Told

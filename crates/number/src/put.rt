@@ -1,15 +1,49 @@
 // A number's bytes at the front of a lent slice. Where there is no room for all of them, nothing is written.
 ghost use mathlib.Core.Path.{_≡_};
-ghost use mathlib.Core.List.{_++_};
-ghost use Prim.Native.Nat.{_≤_};
-ghost use lib.ListN.{length, drop};
+ghost use Rattle.wire.specs.Writes.{inFront};
 ghost use Rattle.number.specs.BigEndian.{bytesOf};
-ghost use Rattle.number.specs.Puts.{putFront};
 
-fn fill64(out: &mut [u8], v: u64)
-    requires { ⌜ 8 ≤ length (now out) ⌝ }
-    ensures { λ _. ⌜ now (out .exit) ≡ bytesOf 8 v ++ drop 8 (now (out .entry)) ⌝ }
+pub fn put8(out: &mut [u8], v: u8)
+    ensures { λ _. ⌜ now (out .exit) ≡ inFront (bytesOf 1 v) (now (out .entry)) ⌝ }
 {
+    if out.len() < 1 {
+        return;
+    }
+    out[0] = v;
+}
+
+pub fn put16(out: &mut [u8], v: u16)
+    ensures { λ _. ⌜ now (out .exit) ≡ inFront (bytesOf 2 v) (now (out .entry)) ⌝ }
+{
+    if out.len() < 2 {
+        return;
+    }
+    let b = v / 256;
+    out[0] = (b % 256) as u8;
+    out[1] = (v % 256) as u8;
+}
+
+pub fn put32(out: &mut [u8], v: u32)
+    ensures { λ _. ⌜ now (out .exit) ≡ inFront (bytesOf 4 v) (now (out .entry)) ⌝ }
+{
+    if out.len() < 4 {
+        return;
+    }
+    let b = v / 256;
+    let c = b / 256;
+    let d = c / 256;
+    out[0] = (d % 256) as u8;
+    out[1] = (c % 256) as u8;
+    out[2] = (b % 256) as u8;
+    out[3] = (v % 256) as u8;
+}
+
+pub fn put64(out: &mut [u8], v: u64)
+    ensures { λ _. ⌜ now (out .exit) ≡ inFront (bytesOf 8 v) (now (out .entry)) ⌝ }
+{
+    if out.len() < 8 {
+        return;
+    }
     let b = v / 256;
     let c = b / 256;
     let d = c / 256;
@@ -25,13 +59,4 @@ fn fill64(out: &mut [u8], v: u64)
     out[5] = (c % 256) as u8;
     out[6] = (b % 256) as u8;
     out[7] = (v % 256) as u8;
-}
-
-pub fn put64(out: &mut [u8], v: u64)
-    ensures { λ _. ⌜ now (out .exit) ≡ putFront 8 v (now (out .entry)) ⌝ }
-{
-    if out.len() < 8 {
-        return;
-    }
-    fill64(out, v);
 }

@@ -5,3 +5,4 @@ pub mod RoundTrips
 pub mod Tables
 pub mod Unique
 pub mod Within
+pub mod Writes

@@ -3,3 +3,4 @@ pub mod Answer
 pub mod Codes
 pub mod Refusals
 pub mod Shapes
+pub mod Writes

@@ -4,6 +4,7 @@ use crate::refusal::Refusal;
 ghost use mathlib.Core.Path.{_≡_};
 ghost use Rattle.wire.specs.Answer.{within, stayAt};
 ghost use Rattle.wire.specs.Refusals.{toldMoved};
+ghost use Rattle.wire.specs.Writes.{roomFor};
 
 pub struct Cursor {
     pub at: usize,
@@ -53,5 +54,24 @@ impl Cursor {
             });
         }
         Moved::To(self)
+    }
+    // Past an output of so many bytes, in a buffer of so many: every write starts here.
+    pub fn room(self, len: usize, width: usize) -> Moved
+        ensures { λ r. ⌜ toldMoved r ≡ roomFor len (self .at) width ⌝ }
+    {
+        let at = self.at;
+        if len < at {
+            return Moved::Refused(Refusal {
+                kind: Kind::StartBeyond,
+                place: at,
+            });
+        }
+        if len - at < width {
+            return Moved::Refused(Refusal {
+                kind: Kind::OutputFull,
+                place: at,
+            });
+        }
+        Moved::To(Cursor { at: at + width })
     }
 }

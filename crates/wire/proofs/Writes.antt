@@ -1,0 +1,121 @@
+-- The cases of a write, what a leaf leaves in the whole buffer, and that no two answers meet a writer's promise. Assumes nothing.
+use mathlib.Core.Path.{_≡_, refl, sym, ap, _∙_}
+use mathlib.Core.Bool.{Bool, true, false}
+use mathlib.Core.List.{List, [], _++_, append-nil, append-assoc}
+use Prim.Native.Nat.{ℕ, _+_, _-_, _<_, _≤_}
+use native.Mathlib.Nat.{le-of-eq, zero-add}
+use native.Mathlib.Omega.{arith}
+use borrow.Author.Tests.{lt-ltb, le-ltb}
+use borrow.Rule.Slice.PartMut.{putMid}
+use lib.Dec.{ltb}
+use lib.ListN.{length, take, drop, length-append, length-take, length-drop, drop-of-length-le}
+use lib.Seq.{take-all, take-at, drop-drop, drop-append-add}
+use Rattle.wire.specs.Answer.{Answer, gives, refused, refuseIf, andThen}
+use Rattle.wire.specs.Refusals.{toldMoved, toldRefusal}
+use Rattle.wire.specs.Writes.{roomFor, laid, writeAt, answered, left, Wrote, inFront}
+use Rattle.wire.specs.declared.cursor.Cursor.{Cursor}
+use Rattle.wire.specs.declared.cursor.Moved.{Moved}
+use Rattle.wire.specs.declared.cursor.Moved.the-variants as M
+use Rattle.wire.specs.declared.refusal.Refusal.{Refusal}
+use Rattle.wire.proofs.Answers.{passed}
+use Rattle.wire.proofs.Unique.{moved-settled}
+
+module _ (n at w : ℕ) where
+  pub no-place : n < at → refused 2 at ≡ roomFor n at w
+  unfolding roomFor refuseIf
+  no-place h = simp (lt-ltb _ _ h)
+
+  pub full : at ≤ n → n - at < w → refused 15 at ≡ roomFor n at w
+  unfolding roomFor refuseIf
+  full h i = simp (le-ltb _ _ h, lt-ltb _ _ i)
+
+  pub room : at ≤ n → w ≤ n - at → gives tt (at + w) ≡ roomFor n at w
+  unfolding roomFor refuseIf
+  room h i = simp (le-ltb _ _ h, le-ltb _ _ i)
+
+-- a write that refuses, for whatever reason, leaves the buffer as it was
+pub refuses-write : {old : List ℕ} {x : Refusal} {write : Answer (List ℕ)} → toldRefusal x ≡ write → Wrote (M.Refused x) old old write
+unfolding answered left
+refuses-write e = record { answer = rw (← e); buffer = rw (← e) }
+
+pub wrote : {new old : List ℕ} {c : Cursor} {write : Answer (List ℕ)} → gives new (c .at) ≡ write → Wrote (M.To c) new old write
+unfolding answered left
+wrote e = record { answer = rw (← e); buffer = rw (← e) }
+
+-- a refusal of two tests is theirs, whatever would follow them
+refused-first : {A B : Type 0} (b c : Bool) (k j at q : ℕ) {n p : ℕ} (v : A) (w : B) → refused n p ≡ refuseIf b k at (refuseIf c j at (gives v q))
+    → refused n p ≡ refuseIf b k at (refuseIf c j at (gives w q))
+unfolding refuseIf
+refused-first true c k j at q v w e = cc
+refused-first false true k j at q v w e = cc
+refused-first false false k j at q v w e = let z : _≡_ {A = ℕ} 0 1 = cc in absurd (omega arith)
+
+module _ (output : Answer (List ℕ)) (out : List ℕ) (at : ℕ) where
+  pub write-beyond : length out < at → refused 2 at ≡ writeAt output out at
+  unfolding writeAt refuseIf
+  write-beyond h = rw (lt-ltb _ _ h)
+
+  -- the write's own fault, at a place inside
+  pub write-fault : {n p : ℕ} → at ≤ length out → refused n p ≡ output → refused n p ≡ writeAt output out at
+  unfolding writeAt refuseIf andThen
+  write-fault h e = rw (le-ltb _ _ h, ← e)
+
+  module _ {bs : List ℕ} {q : ℕ} (e : gives bs q ≡ output) where
+    -- the room that was asked for is the output's length
+    pub write-no-room : {n p : ℕ} → refused n p ≡ roomFor (length out) at (length bs) → refused n p ≡ writeAt output out at
+    unfolding writeAt roomFor andThen
+    write-no-room f = rw (← e) (refused-first (ltb (length out) at) (ltb (length out - at) (length bs)) 2 15 at (at + length bs) tt (laid bs out at) f)
+
+    pub writes : {next : ℕ} {new : List ℕ} → gives tt next ≡ roomFor (length out) at (length bs) → new ≡ laid bs out at → gives new next ≡ writeAt output out at
+    unfolding writeAt roomFor andThen refuseIf
+    writes {next} f g =
+        let a = passed (ltb (length out) at) 2 at _ f in
+        let b = passed (ltb (length out - at) (length bs)) 15 at (gives tt (at + length bs)) (a .gave) in
+        let same : next ≡ at + length bs = cc (b .gave) in
+        rw (← e, a .test, b .test, same, g)
+
+-- what a leaf puts in front of the part that it was lent stands in the whole buffer
+module _ (bs out : List ℕ) (at : ℕ) where
+  part-length : length (take (length out - at) (drop at out)) ≡ length out - at
+  part-length = rw (length-take, length-drop) (omega arith)
+
+  pub landed : {ys : List ℕ} → at + length bs ≤ length out → ys ≡ inFront bs (take (length out - at) (drop at out))
+      → putMid at (length out - at) out ys ≡ laid bs out at
+  unfolding laid inFront
+  landed {ys} h e =
+      let rest : take (length out - at) (drop at out) ≡ drop at out = take-all _ _ (le-of-eq (length-drop at out)) in
+      let none : drop (length out - at) (drop at out) ≡ [] = drop-of-length-le _ (le-of-eq (length-drop at out)) in
+      let fits : ltb (length (drop at out)) (length bs) ≡ false = le-ltb (length (drop at out)) (length bs) (rw (length-drop at out) (omega arith)) in
+      simp (e, rest, none, fits, append-nil, drop-drop, append-assoc)
+
+  -- one piece after another
+  pub laid-behind : (cs : List ℕ) → at + length bs ≤ length out → laid cs (laid bs out at) (at + length bs) ≡ laid (bs ++ cs) out at
+  unfolding laid
+  laid-behind cs h =
+      let head : length (take at out ++ bs) ≡ at + length bs = simp (length-append, length-take) (omega arith) in
+      let tail : drop (at + length bs + length cs) (take at out ++ bs ++ drop (at + length bs) out) ≡ drop (at + length bs + length cs) out =
+      rw (← head) (drop-append-add (take at out ++ bs) _ (length cs) ∙ drop-drop (length cs) _ out) in
+      let sum : at + length bs + length cs ≡ at + (length bs + length cs) = omega arith in
+      rw (take-at (take at out ++ bs) (drop (at + length bs) out) (at + length bs) head, tail, length-append bs cs, sum, ← append-assoc (take at out) bs cs)
+
+  pub length-laid : at + length bs ≤ length out → length (laid bs out at) ≡ length out
+  unfolding laid
+  length-laid h = simp (length-append, length-take, length-drop) (omega arith)
+
+-- what a leaf put in front of the whole buffer stands at place 0
+pub front-laid : (bs out : List ℕ) → length bs ≤ length out → inFront bs out ≡ laid bs out 0
+unfolding inFront laid
+front-laid bs out h = rw (le-ltb _ _ h, zero-add (length bs))
+
+-- a piece that a leaf put behind what already stands from the place on
+pub piece : (out : List ℕ) (at : ℕ) (hd bs : List ℕ) (p : ℕ) {d ys : List ℕ} → p ≡ at + length hd → at + length (hd ++ bs) ≤ length out
+    → d ≡ laid hd out at → ys ≡ inFront bs (take (length d - p) (drop p d)) → putMid p (length d - p) d ys ≡ laid (hd ++ bs) out at
+piece out at hd bs p {d} e h f g =
+    let room : at + (length hd + length bs) ≤ length out = rw (length-append hd bs) at h in
+    let before : at + length hd ≤ length out = omega arith in
+    let same : length d ≡ length out = ap length f ∙ length-laid hd out at before in
+    landed bs d p (omega arith) g ∙ rw (f, e) (laid-behind hd out at bs before)
+
+-- a writer's promise settles its answer and the buffer
+pub wrote-settled : {r r' : Moved} {new new' old : List ℕ} {write : Answer (List ℕ)} → Wrote r new old write → Wrote r' new' old write → (r ≡ r') × (new ≡ new')
+wrote-settled p q = (moved-settled (p .answer) (q .answer), p .buffer ∙ sym (q .buffer))

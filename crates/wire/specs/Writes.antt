@@ -1,0 +1,45 @@
+-- What a write into a lent buffer comes to: 01's "Writing and frames", over the bytes that are to be put down.
+use Prim.Native.Nat.{ℕ, _+_, _-_}
+use mathlib.Core.Path.{_≡_}
+use mathlib.Core.Bool.{cond}
+use mathlib.Core.List.{List, _++_}
+use lib.ListN.{length, take, drop}
+use lib.Dec.{ltb}
+use Rattle.wire.specs.Answer.{Answer, gives, refused, refuseIf, andThen, entry}
+use Rattle.wire.specs.Refusals.{toldMoved}
+use Rattle.wire.specs.declared.cursor.Moved.{Moved}
+
+-- "room is asked for the call's whole output at once, and 15 is given exactly when it needs more bytes than remain": of n bytes, w from a place on
+unfoldable pub roomFor : ℕ → ℕ → ℕ → Answer Unit
+roomFor n at w = refuseIf (ltb n at) 2 at (refuseIf (ltb (n - at) w) 15 at (gives tt (at + w)))
+
+-- "Bytes outside that output stay as they were": a buffer with bs from a place on
+unfoldable pub laid : List ℕ → List ℕ → ℕ → List ℕ
+laid bs out at = take at out ++ bs ++ drop (at + length bs) out
+
+-- A write at a place: 2, then the faults of its own in what it would put down, then 15. It gives the whole buffer and the place after its output
+unfoldable pub writeAt : Answer (List ℕ) → List ℕ → ℕ → Answer (List ℕ)
+writeAt output out at =
+    entry out at
+    (andThen output λ bs _.
+    refuseIf (ltb (length out - at) (length bs)) 15 at
+    (gives (laid bs out at) (at + length bs)))
+
+-- the answer without the buffer
+unfoldable pub answered : Answer (List ℕ) → Answer Unit
+answered (gives new next) = gives tt next
+answered (refused n p) = refused n p
+
+-- "A refusal changes no lent byte": the buffer after a write
+unfoldable pub left : Answer (List ℕ) → List ℕ → List ℕ
+left (gives new next) old = new
+left (refused n p) old = old
+
+-- what a writer promises: its answer, and every byte of the buffer
+pub record Wrote (r : Moved) (new old : List ℕ) (write : Answer (List ℕ)) : Type 0 where
+  pub answer : toldMoved r ≡ answered write
+  pub buffer : new ≡ left write old
+
+-- a leaf writer's part: bs in front of what it was lent, which stays as it was where there is no room for all of them
+unfoldable pub inFront : List ℕ → List ℕ → List ℕ
+inFront bs out = cond (ltb (length out) (length bs)) out (bs ++ drop (length bs) out)
