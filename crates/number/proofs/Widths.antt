@@ -2,10 +2,10 @@
 use mathlib.Core.Path.{_≡_, refl, sym, _∙_, ap}
 use mathlib.Core.List.{List, [], _∷_, _++_}
 use Prim.Native.Nat.{ℕ, zero, suc, _+_, _*_, _/_, _%_, _^_, _<_, _≤_}
-use native.Mathlib.Nat.{mod-eq-of-lt, mod-one, pow-suc, pow-zero, add-zero, mul-assoc}
+use native.Mathlib.Nat.{mod-eq-of-lt, mod-lt, mod-one, pow-suc, pow-zero, add-zero, mul-assoc}
 use native.Mathlib.Numerals.{add-one}
 use native.Mathlib.Omega.{arith}
-use lib.Arith.{mod-mul}
+use lib.Arith.{mod-mul, digits-div, digits-mod}
 use lib.Dec.{lit<}
 use lib.IntN.{ℤ}
 use mir.Syntax.{Width}
@@ -54,6 +54,11 @@ unfolding bytesOf
 length-bytesOf zero n = refl
 length-bytesOf (suc w) n = length-append (bytesOf w (n / 256)) (n % 256 ∷ []) ∙ rw (length-bytesOf w (n / 256), add-one)
 
+-- a byte's one byte is itself
+pub one-byte : (b : ℕ) → b < 256 → bytesOf 1 b ≡ b ∷ []
+unfolding bytesOf
+one-byte b h = rw (mod-eq-of-lt h)
+
 powers : (w : ℕ) → 0 < 256 ^ w
 powers zero = lit< tt
 powers (suc w) = let h : 0 < 256 ^ w = powers w in rw (pow-suc 256 w) (omega arith)
@@ -64,6 +69,15 @@ unfolding big bytesOf
 written zero n = sym (mod-one n)
 written (suc w) n =
     rw (big-snoc (bytesOf w (n / 256)) (n % 256), written w (n / 256), pow-suc 256 w, mod-mul n (powers w) (lit< tt))
+
+-- only the last bytes of a number count
+pub low-bytes : (w n : ℕ) → bytesOf w (n % 256 ^ w) ≡ bytesOf w n
+unfolding bytesOf
+low-bytes zero n = refl
+low-bytes (suc w) n =
+    let q = n / 256 % 256 ^ w in
+    let low : n % 256 < 256 = mod-lt n (lit< tt) in
+    rw (pow-suc 256 w, mod-mul n (powers w) (lit< tt), digits-div q low, digits-mod q low, low-bytes w (n / 256))
 
 -- a signed number comes back with its sign, at any width whose bits are the bytes'
 pub signed-written : (w : ℕ) (k : Width) (v : ℤ) → 256 ^ w ≡ 2 ^ bits k → SFits k v → toZ k (big (bytesOf w (ofZ k v))) ≡ v

@@ -1,10 +1,11 @@
 // A number's bytes at the front of a lent slice. Where there is no room for all of them, nothing is written.
 ghost use mathlib.Core.Path.{_≡_};
+ghost use mathlib.Core.List.{[], _∷_};
 ghost use Rattle.wire.specs.Writes.{inFront};
 ghost use Rattle.number.specs.BigEndian.{bytesOf};
 
 pub fn put8(out: &mut [u8], v: u8)
-    ensures { λ _. ⌜ now (out .exit) ≡ inFront (bytesOf 1 v) (now (out .entry)) ⌝ }
+    ensures { λ _. ⌜ now (out .exit) ≡ inFront (v ∷ []) (now (out .entry)) ⌝ }
 {
     if out.len() < 1 {
         return;

@@ -1,3 +1,4 @@
 pub mod Headers
+pub mod Layouts
 pub mod Scalars
 pub mod Told

@@ -1,12 +1,13 @@
 -- Texts: "32-bit length; 1, 6, 7, then body 1. Names and strings then 13; bytes don't."
 use Prim.Native.Nat.{ℕ, _-_}
 use mathlib.Core.Bool.{cond}
-use mathlib.Core.List.{List, []}
+use mathlib.Core.List.{List, [], _++_}
 use lib.Dec.{ltb}
 use lib.ListN.{length, take, drop}
 use lib.IntN.{ℤ, pos, natAbs}
 use lib.Signed.{ltZ}
 use Rattle.wire.specs.Answer.{Answer, gives, refused, refuseIf, andThen, within}
+use Rattle.number.specs.BigEndian.{bytesOf}
 use Rattle.number.specs.Reads.{i32At}
 use Rattle.config.specs.Limits.{above}
 use Rattle.config.specs.declared.limit.Limit.{Limit}
@@ -15,6 +16,10 @@ use Rattle.text.specs.declared.Span.{Span}
 
 abbrev pub span : ℕ → ℕ → Span
 span a e = record { start = a; end = e }
+
+-- Apache's layout of a size and as many bytes: the length in four bytes, then the bytes
+abbrev pub sizedLayout : List ℕ → List ℕ
+sizedLayout b = bytesOf 4 (length b) ++ b
 
 -- a size of 32 bits: 1, then 6 where it is negative
 unfoldable pub sizeAt : List ℕ → ℕ → Answer ℤ

@@ -14,7 +14,8 @@ use Rattle.wire.specs.declared.shape.Shape.{Shape}
 use Rattle.wire.specs.declared.shape.Shape.the-variants as Sh
 use Rattle.config.specs.Limits.{above, reached}
 use Rattle.config.specs.declared.configuration.TConfiguration.{TConfiguration}
-use Rattle.number.specs.BigEndian.{bytesOf}
+use Rattle.text.specs.Texts.{sizedLayout}
+use Rattle.read.specs.Layouts.{fieldLayout, listLayout, mapLayout}
 
 mutual
   pub data Tree : Type 0 where
@@ -55,19 +56,17 @@ pairsOf (with ps k v) = pairsOf ps + 1
 unfoldable mutual
   pub layout : Tree → List ℕ
   layout (scalar b) = b
-  -- the length in four bytes, then the bytes
-  layout (text b) = bytesOf 4 (length b) ++ b
+  layout (text b) = sizedLayout b
   -- the fields, then a stop byte
   layout (struct fs) = fieldsLayout fs ++ (typeByte T.Stop ∷ [])
-  -- the element type, the number of elements in four bytes, the elements
-  layout (list t ts) = (typeByte t ∷ bytesOf 4 (countOf ts)) ++ treesLayout ts
-  -- the key type, the value type, the number of pairs in four bytes, key and value of each
-  layout (map k v ps) = (typeByte k ∷ typeByte v ∷ bytesOf 4 (pairsOf ps)) ++ pairsLayout ps
+  -- each container's header, then the elements; of a map, key and value of each pair
+  layout (list t ts) = listLayout t (countOf ts) ++ treesLayout ts
+  layout (map k v ps) = mapLayout k v (pairsOf ps) ++ pairsLayout ps
 
   pub fieldsLayout : Fields → List ℕ
   fieldsLayout nil = []
-  -- the type, the id in two bytes, the value
-  fieldsLayout (snoc fs t id v) = fieldsLayout fs ++ ((typeByte t ∷ id) ++ layout v)
+  -- each field's header, then its value
+  fieldsLayout (snoc fs t id v) = fieldsLayout fs ++ (fieldLayout t id ++ layout v)
 
   pub treesLayout : Trees → List ℕ
   treesLayout none = []

@@ -5,7 +5,7 @@ use mathlib.Core.List.{List, [], _++_, append-nil, append-assoc}
 use Prim.Native.Nat.{ℕ, _+_, _-_, _<_, _≤_}
 use native.Mathlib.Nat.{le-of-eq, zero-add}
 use native.Mathlib.Omega.{arith}
-use borrow.Author.Tests.{lt-ltb, le-ltb}
+use borrow.Author.Tests.{lt-ltb, le-ltb, ltb-false}
 use borrow.Rule.Slice.PartMut.{putMid}
 use lib.Dec.{ltb}
 use lib.ListN.{length, take, drop, length-append, length-take, length-drop, drop-of-length-le}
@@ -32,6 +32,22 @@ module _ (n at w : ℕ) where
   pub room : at ≤ n → w ≤ n - at → gives tt (at + w) ≡ roomFor n at w
   unfolding roomFor refuseIf
   room h i = simp (le-ltb _ _ h, le-ltb _ _ i)
+
+-- where there is room, the place after and both tests are known
+pub record Room (n at w next : ℕ) : Type 0 where
+  pub inside : ltb n at ≡ false
+  pub enough : ltb (n - at) w ≡ false
+  pub after : next ≡ at + w
+
+pub has-room : (n at w : ℕ) {next : ℕ} → gives tt next ≡ roomFor n at w → Room n at w next
+unfolding roomFor
+has-room n at w f =
+    let a = passed (ltb n at) 2 at _ f in
+    let b = passed (ltb (n - at) w) 15 at (gives tt (at + w)) (a .gave) in
+    record { inside = a .test; enough = b .test; after = cc (b .gave) }
+
+pub room-fits : (n at w : ℕ) {next : ℕ} → gives tt next ≡ roomFor n at w → at + w ≤ n
+room-fits n at w f = let i = has-room n at w f in omega (arith, ltb-false n at (i .inside), ltb-false (n - at) w (i .enough))
 
 -- a write that refuses, for whatever reason, leaves the buffer as it was
 pub refuses-write : {old : List ℕ} {x : Refusal} {write : Answer (List ℕ)} → toldRefusal x ≡ write → Wrote (M.Refused x) old old write
@@ -60,19 +76,15 @@ module _ (output : Answer (List ℕ)) (out : List ℕ) (at : ℕ) where
   unfolding writeAt refuseIf andThen
   write-fault h e = rw (le-ltb _ _ h, ← e)
 
-  module _ {bs : List ℕ} {q : ℕ} (e : gives bs q ≡ output) where
-    -- the room that was asked for is the output's length
-    pub write-no-room : {n p : ℕ} → refused n p ≡ roomFor (length out) at (length bs) → refused n p ≡ writeAt output out at
+  -- room was asked for w bytes, the length of the output
+  module _ {bs : List ℕ} {q : ℕ} (w : ℕ) (e : gives bs q ≡ output) (l : length bs ≡ w) where
+    pub write-no-room : {n p : ℕ} → refused n p ≡ roomFor (length out) at w → refused n p ≡ writeAt output out at
     unfolding writeAt roomFor andThen
-    write-no-room f = rw (← e) (refused-first (ltb (length out) at) (ltb (length out - at) (length bs)) 2 15 at (at + length bs) tt (laid bs out at) f)
+    write-no-room f = rw (← e, l) (refused-first (ltb (length out) at) (ltb (length out - at) w) 2 15 at (at + w) tt (laid bs out at) f)
 
-    pub writes : {next : ℕ} {new : List ℕ} → gives tt next ≡ roomFor (length out) at (length bs) → new ≡ laid bs out at → gives new next ≡ writeAt output out at
-    unfolding writeAt roomFor andThen refuseIf
-    writes {next} f g =
-        let a = passed (ltb (length out) at) 2 at _ f in
-        let b = passed (ltb (length out - at) (length bs)) 15 at (gives tt (at + length bs)) (a .gave) in
-        let same : next ≡ at + length bs = cc (b .gave) in
-        rw (← e, a .test, b .test, same, g)
+    pub writes : {next : ℕ} {new : List ℕ} → gives tt next ≡ roomFor (length out) at w → new ≡ laid bs out at → gives new next ≡ writeAt output out at
+    unfolding writeAt andThen refuseIf
+    writes f g = let i = has-room (length out) at w f in rw (← e, l, i .inside, i .enough, i .after, g)
 
 -- what a leaf puts in front of the part that it was lent stands in the whole buffer
 module _ (bs out : List ℕ) (at : ℕ) where
@@ -106,6 +118,15 @@ module _ (bs out : List ℕ) (at : ℕ) where
 pub front-laid : (bs out : List ℕ) → length bs ≤ length out → inFront bs out ≡ laid bs out 0
 unfolding inFront laid
 front-laid bs out h = rw (le-ltb _ _ h, zero-add (length bs))
+
+-- the two cases of a leaf
+pub no-front : (bs out : List ℕ) → length out < length bs → out ≡ inFront bs out
+unfolding inFront
+no-front bs out h = rw (lt-ltb _ _ h)
+
+pub fronted : (bs out : List ℕ) {new : List ℕ} → length bs ≤ length out → new ≡ bs ++ drop (length bs) out → new ≡ inFront bs out
+unfolding inFront
+fronted bs out h e = rw (le-ltb _ _ h, e)
 
 -- a piece that a leaf put behind what already stands from the place on
 pub piece : (out : List ℕ) (at : ℕ) (hd bs : List ℕ) (p : ℕ) {d ys : List ℕ} → p ≡ at + length hd → at + length (hd ++ bs) ≤ length out

@@ -25,6 +25,10 @@ writeAt output out at =
     refuseIf (ltb (length out - at) (length bs)) 15 at
     (gives (laid bs out at) (at + length bs)))
 
+-- a write with no fault of its own
+abbrev pub putAt : List ℕ → List ℕ → ℕ → Answer (List ℕ)
+putAt bs out at = writeAt (gives bs at) out at
+
 -- the answer without the buffer
 unfoldable pub answered : Answer (List ℕ) → Answer Unit
 answered (gives new next) = gives tt next

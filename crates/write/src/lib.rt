@@ -1,0 +1,2 @@
+// What TBinaryOutputProtocol writes, put into a lent buffer at a cursor: the moved cursor, or the refusal with the buffer as it was.
+pub mod scalar;

@@ -1,0 +1,138 @@
+//! The archive's functions as they are declared in C, and one safe function over each.
+//!
+//! The archive reads and writes only inside the slices that it is lent and keeps neither; so the pointers and lengths
+//! passed here, taken from live slices, are all that a call needs.
+
+#[cfg(feature = "steps")]
+use crate::steps::{ReadCall, WriteCall};
+
+extern "C" {
+    fn thrift_skip(
+        bytes: *const u8,
+        length: usize,
+        place: usize,
+        depth: usize,
+        type_byte: u8,
+        record: *mut u8,
+        record_length: usize,
+    ) -> u32;
+}
+
+#[cfg(feature = "steps")]
+extern "C" {
+    fn thrift_read(
+        bytes: *const u8,
+        length: usize,
+        place: usize,
+        step: u8,
+        strict: u8,
+        kind: u8,
+        depth: usize,
+        struct_depth: usize,
+        message: usize,
+        frame: usize,
+        structs: usize,
+        container: usize,
+        string: usize,
+        record: *mut u8,
+        record_length: usize,
+    ) -> u32;
+
+    fn thrift_write(
+        out: *mut u8,
+        length: usize,
+        place: usize,
+        step: u8,
+        strict: u8,
+        kind: u8,
+        other: u8,
+        absent: u8,
+        number: u64,
+        text: *const u8,
+        text_length: usize,
+        struct_depth: usize,
+        structs: usize,
+        record: *mut u8,
+        record_length: usize,
+    ) -> u32;
+}
+
+/// A record's big-endian numbers.
+fn numbers<const N: usize>(record: &[[u8; 8]; N]) -> [u64; N] {
+    record.map(u64::from_be_bytes)
+}
+
+/// What `thrift_skip` sets its record to: the refusal or 0, the end or the place, the count.
+pub fn skip(bytes: &[u8], place: usize, depth: usize, type_byte: u8) -> [u64; 3] {
+    let mut record = [[0; 8]; 3];
+    // SAFETY: both pointers and lengths are those of live slices, and only the record is written.
+    let returned = unsafe {
+        thrift_skip(
+            bytes.as_ptr(),
+            bytes.len(),
+            place,
+            depth,
+            type_byte,
+            record.as_flattened_mut().as_mut_ptr(),
+            record.as_flattened().len(),
+        )
+    };
+    debug_assert_eq!(returned, 0, "the record has 24 bytes");
+    numbers(&record)
+}
+
+/// What `thrift_read` sets its record to, or none where it knows no such step.
+#[cfg(feature = "steps")]
+pub fn read(call: &ReadCall<'_>) -> Option<[u64; 6]> {
+    let [message, frame, structs, container, string] = call.limits.numbers();
+    let mut record = [[0; 8]; 6];
+    // SAFETY: both pointers and lengths are those of live slices, and only the record is written.
+    let returned = unsafe {
+        thrift_read(
+            call.bytes.as_ptr(),
+            call.bytes.len(),
+            call.place,
+            call.step as u8,
+            u8::from(call.strict),
+            call.kind as u8,
+            call.depth,
+            call.struct_depth,
+            message,
+            frame,
+            structs,
+            container,
+            string,
+            record.as_flattened_mut().as_mut_ptr(),
+            record.as_flattened().len(),
+        )
+    };
+    (returned == 0).then(|| numbers(&record))
+}
+
+/// What `thrift_write` sets its record to, or none where it knows no such step or the argument does not fit it.
+#[cfg(feature = "steps")]
+pub fn write(call: &WriteCall<'_>, out: &mut [u8]) -> Option<[u64; 6]> {
+    let mut record = [[0; 8]; 6];
+    // SAFETY: the pointers and lengths are those of live slices; `out` and the record are lent to be written, and
+    // neither overlaps the text, which is borrowed at the same time.
+    let returned = unsafe {
+        thrift_write(
+            out.as_mut_ptr(),
+            out.len(),
+            call.place,
+            call.step as u8,
+            u8::from(call.strict),
+            call.kind,
+            call.other,
+            call.absent.bits(),
+            call.number,
+            call.text.as_ptr(),
+            call.text.len(),
+            call.struct_depth,
+            call.structs.unwrap_or(usize::MAX),
+            record.as_flattened_mut().as_mut_ptr(),
+            record.as_flattened().len(),
+        )
+    };
+    (returned == 0).then(|| numbers(&record))
+}

@@ -1,0 +1,70 @@
+//! The skip of one value under the default limits.
+
+use std::error::Error;
+use std::fmt;
+
+use crate::{ffi, Refusal};
+
+/// A value was passed.
+#[derive(Clone, Copy, Debug, PartialEq, Eq)]
+pub struct Skipped {
+    /// The place just after the value.
+    pub end: usize,
+    /// The number of values passed: the value itself and each one inside it.
+    pub count: usize,
+}
+
+/// No value of the type stands there within depth and limits.
+#[derive(Clone, Copy, Debug, PartialEq, Eq)]
+pub struct Refused {
+    /// Why.
+    pub refusal: Refusal,
+    /// Where the fault stands.
+    pub place: usize,
+    /// The number of values begun before it.
+    pub count: usize,
+}
+
+impl fmt::Display for Refused {
+    fn fmt(&self, f: &mut fmt::Formatter<'_>) -> fmt::Result {
+        let values = if self.count == 1 { "value" } else { "values" };
+        write!(
+            f,
+            "{}, at byte {}, {} {values} begun",
+            self.refusal, self.place, self.count
+        )
+    }
+}
+
+impl Error for Refused {}
+
+/// A place or count in the archive's record.
+pub(crate) fn in_memory(number: u64) -> usize {
+    usize::try_from(number).expect("places and counts are usize in the archive")
+}
+
+/// Passes the value of the type `type_byte` that starts at `place`, down to `depth` levels (0 to 127; 64 is usual).
+///
+/// The limits are the defaults: texts to 104,857,600 bytes, structs nested to 64, containers whose least size is at
+/// most 104,857,600 bytes. The bytes are only looked at; a refused skip leaves the caller's place as it was.
+///
+/// Refuses 2, 20, 5, then what the value's own bytes call for: 1, 5, 6, 7, 9, 10, 11, 12.
+///
+/// ```
+/// // the list of two bytes 5 and 6
+/// let list = [0x03, 0, 0, 0, 2, 5, 6];
+/// assert_eq!(turmyshge::skip(&list, 0, 2, 0x0f).unwrap().end, 7);
+/// assert_eq!(turmyshge::skip(&list, 0, 1, 0x0f).unwrap_err().refusal.number(), 10);
+/// ```
+pub fn skip(bytes: &[u8], place: usize, depth: usize, type_byte: u8) -> Result<Skipped, Refused> {
+    let [number, end, count] = ffi::skip(bytes, place, depth, type_byte);
+    let (end, count) = (in_memory(end), in_memory(count));
+    match Refusal::from_number(number) {
+        None => Ok(Skipped { end, count }),
+        Some(refusal) => Err(Refused {
+            refusal,
+            place: end,
+            count,
+        }),
+    }
+}

@@ -1,0 +1,38 @@
+//! Single reads and writes, asked for one at a time.
+//!
+//! A [`ReadCall`] or [`WriteCall`] names a step and its arguments, and an [`Answer`] is what it gives: an end and up to
+//! four values, or a refusal and its place. With the feature `steps`, `read` and `write` make any such call, and the
+//! named functions beside them make one each: `read_i32`, `read_field_begin`, `write_string` and so on.
+
+mod answer;
+mod limits;
+#[cfg(feature = "steps")]
+mod named_reads;
+#[cfg(feature = "steps")]
+mod named_writes;
+mod read_call;
+mod types;
+mod write_call;
+
+pub use answer::{Answer, StepRefused};
+pub use limits::Limits;
+#[cfg(feature = "steps")]
+pub use named_reads::*;
+#[cfg(feature = "steps")]
+pub use named_writes::*;
+pub use read_call::{ReadCall, ReadStep};
+pub use types::{MessageType, TType};
+pub use write_call::{Absent, WriteCall, WriteStep};
+
+/// Makes the read that `call` describes.
+#[cfg(feature = "steps")]
+pub fn read(call: &ReadCall<'_>) -> Answer {
+    Answer::from_record(crate::ffi::read(call).expect("every step and type here is known there"))
+}
+
+/// Makes the write that `call` describes into `out`, or answers none where its arguments make no call: a message type
+/// that is not 1 to 4, a type index above 14, a UUID that has not 16 bytes.
+#[cfg(feature = "steps")]
+pub fn write(call: &WriteCall<'_>, out: &mut [u8]) -> Option<Answer> {
+    crate::ffi::write(call, out).map(Answer::from_record)
+}
