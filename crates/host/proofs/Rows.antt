@@ -10,8 +10,8 @@ use borrow.Rule.Slice.PartMut.{putMid}
 use borrow.Author.Tests.{lt-ltb, le-ltb}
 use Rattle.wire.specs.Answer.{Answer, gives, refused}
 use Rattle.wire.specs.Codes.{typeOf}
-use Rattle.wire.specs.Writes.{laid, inFront}
-use Rattle.wire.proofs.Writes.{front-laid, piece}
+use Rattle.wire.specs.Writes.{inFront}
+use Rattle.wire.proofs.Writes.{behind, unfronted}
 use Rattle.wire.specs.declared.codes.Typed.{Typed}
 use Rattle.wire.specs.declared.codes.Typed.the-variants as Type-of
 use Rattle.number.specs.BigEndian.{bytesOf}
@@ -60,11 +60,9 @@ module _ (out : List ℕ) (a b c : ℕ) (h : 24 ≤ length out) where
       → z ≡ inFront (bytesOf 8 c) (take (length (putMid 8 (length d - 8) d y) - 16) (drop 16 (putMid 8 (length d - 8) d y)))
       → putMid 16 (length (putMid 8 (length d - 8) d y) - 16) (putMid 8 (length d - 8) d y) z
       ≡ (bytesOf 8 a ++ bytesOf 8 b ++ bytesOf 8 c) ++ drop 24 out
-  unfolding laid
   three-put d y z p q r =
       let one : length (bytesOf 8 a) ≡ 8 = length-bytesOf 8 a in
       let two : length (bytesOf 8 a ++ bytesOf 8 b) ≡ 16 = simp (length-append, length-bytesOf) in
       let three : length (bytesOf 8 a ++ bytesOf 8 b ++ bytesOf 8 c) ≡ 24 = simp (length-append, length-bytesOf) in
-      let first = p ∙ front-laid (bytesOf 8 a) out (omega arith) in
-      let second = piece out 0 (bytesOf 8 a) (bytesOf 8 b) 8 (omega arith) (omega arith) first q in
-      piece out 0 (bytesOf 8 a ++ bytesOf 8 b) (bytesOf 8 c) 16 (omega arith) (omega arith) second r ∙ rw three
+      let second = behind out (bytesOf 8 a) (bytesOf 8 b) 8 (omega arith) (omega arith) p q in
+      behind out (bytesOf 8 a ++ bytesOf 8 b) (bytesOf 8 c) 16 (omega arith) (omega arith) second r ∙ unfronted _ out (omega arith) ∙ rw three

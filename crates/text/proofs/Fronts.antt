@@ -1,13 +1,13 @@
 -- A size and its bytes, put in front one after the other. Assumes nothing.
 use Prim.Native.Nat.{ℕ, _+_, _-_, _%_, _<_, _≤_}
-use mathlib.Core.Path.{_≡_, refl, sym, _∙_, ap}
+use mathlib.Core.Path.{_≡_, _∙_}
 use mathlib.Core.List.{List, _++_}
 use lib.ListN.{length, take, drop, length-append}
 use lib.Seq.{take-length}
 use native.Mathlib.Omega.{arith}
 use borrow.Rule.Slice.PartMut.{putMid}
-use Rattle.wire.specs.Writes.{laid, inFront}
-use Rattle.wire.proofs.Writes.{front-laid, no-front, fronted, piece}
+use Rattle.wire.specs.Writes.{inFront}
+use Rattle.wire.proofs.Writes.{no-front, fronted, behind}
 use Rattle.number.specs.BigEndian.{bytesOf}
 use Rattle.number.proofs.Widths.{length-bytesOf, low-bytes}
 use Rattle.text.specs.Texts.{sizedLayout}
@@ -24,8 +24,7 @@ module _ (src out : List ℕ) where
 
   pub sized : {d ys : List ℕ} → 4 + length src ≤ length out → d ≡ inFront (bytesOf 4 (length src % 4294967296)) out
       → ys ≡ inFront src (take (length d - 4) (drop 4 d)) → putMid 4 (length d - 4) d ys ≡ inFront (sizedLayout src) out
-  sized {d} h e f =
+  sized h e f =
       let size : length (bytesOf 4 (length src)) ≡ 4 = length-bytesOf 4 (length src) in
       let whole : length (sizedLayout src) ≡ 4 + length src = length-sized src in
-      let first : d ≡ laid (bytesOf 4 (length src)) out 0 = e ∙ rw (low-bytes 4 (length src)) (front-laid (bytesOf 4 (length src)) out (omega arith)) in
-      piece out 0 (bytesOf 4 (length src)) src 4 (omega arith) (omega arith) first f ∙ sym (front-laid (sizedLayout src) out (omega arith))
+      behind out (bytesOf 4 (length src)) src 4 (omega arith) (omega arith) (rw (low-bytes 4 (length src)) at e) f

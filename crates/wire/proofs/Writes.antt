@@ -124,18 +124,23 @@ pub no-front : (bs out : List ℕ) → length out < length bs → out ≡ inFron
 unfolding inFront
 no-front bs out h = rw (lt-ltb _ _ h)
 
-pub fronted : (bs out : List ℕ) {new : List ℕ} → length bs ≤ length out → new ≡ bs ++ drop (length bs) out → new ≡ inFront bs out
+pub unfronted : (bs out : List ℕ) → length bs ≤ length out → inFront bs out ≡ bs ++ drop (length bs) out
 unfolding inFront
-fronted bs out h e = rw (le-ltb _ _ h, e)
+unfronted bs out h = rw (le-ltb _ _ h)
 
--- a piece that a leaf put behind what already stands from the place on
-pub piece : (out : List ℕ) (at : ℕ) (hd bs : List ℕ) (p : ℕ) {d ys : List ℕ} → p ≡ at + length hd → at + length (hd ++ bs) ≤ length out
-    → d ≡ laid hd out at → ys ≡ inFront bs (take (length d - p) (drop p d)) → putMid p (length d - p) d ys ≡ laid (hd ++ bs) out at
-piece out at hd bs p {d} e h f g =
-    let room : at + (length hd + length bs) ≤ length out = rw (length-append hd bs) at h in
-    let before : at + length hd ≤ length out = omega arith in
-    let same : length d ≡ length out = ap length f ∙ length-laid hd out at before in
-    landed bs d p (omega arith) g ∙ rw (f, e) (laid-behind hd out at bs before)
+pub fronted : (bs out : List ℕ) {new : List ℕ} → length bs ≤ length out → new ≡ bs ++ drop (length bs) out → new ≡ inFront bs out
+fronted bs out h e = e ∙ sym (unfronted bs out h)
+
+-- one leaf behind another: what it puts at the place after hd stands behind hd
+pub behind : (out hd bs : List ℕ) (p : ℕ) {d ys : List ℕ} → p ≡ length hd → length (hd ++ bs) ≤ length out
+    → d ≡ inFront hd out → ys ≡ inFront bs (take (length d - p) (drop p d)) → putMid p (length d - p) d ys ≡ inFront (hd ++ bs) out
+behind out hd bs p {d} e h f g =
+    let room : length hd + length bs ≤ length out = rw (length-append hd bs) at h in
+    let before : 0 + length hd ≤ length out = omega arith in
+    let first : d ≡ laid hd out 0 = f ∙ front-laid hd out (omega arith) in
+    let same : length d ≡ length out = ap length first ∙ length-laid hd out 0 before in
+    let place : p ≡ 0 + length hd = omega arith in
+    landed bs d p (omega arith) g ∙ rw (first, place) (laid-behind hd out 0 bs before) ∙ sym (front-laid (hd ++ bs) out h)
 
 -- a writer's promise settles its answer and the buffer
 pub wrote-settled : {r r' : Moved} {new new' old : List ℕ} {write : Answer (List ℕ)} → Wrote r new old write → Wrote r' new' old write → (r ≡ r') × (new ≡ new')

@@ -1,1 +1,3 @@
+pub mod Headers
+pub mod Outputs
 pub mod Whole

@@ -1,2 +1,7 @@
 // What TBinaryOutputProtocol writes, put into a lent buffer at a cursor: the moved cursor, or the refusal with the buffer as it was.
+pub mod container;
+pub mod field;
+pub mod messages;
 pub mod scalar;
+pub mod string;
+pub mod structs;

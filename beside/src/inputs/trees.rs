@@ -1,0 +1,193 @@
+//! Random trees and messages: written by both sides, then read and skipped whole and damaged.
+
+use turmyshge::steps::{Limits, ReadCall, ReadStep, TType, WriteCall, WriteStep};
+
+use super::damage::{damaged, Damage};
+use super::tree::{grow, Tree};
+use super::Share;
+use crate::plain::Plain;
+use crate::port::{self, Port};
+use crate::published::{put, Writer};
+use crate::rng::Rng;
+use crate::visitor::Visitor;
+
+/// Damaged copies of each kind that are made of each value.
+const COPIES: usize = 6;
+
+/// Shows random values.
+pub fn show(visitor: &mut dyn Visitor, share: &Share) {
+    for round in 0..share.rounds {
+        if share.takes(round as usize) {
+            show_one(visitor, &mut Rng::new(share.seed, round));
+        }
+    }
+}
+
+fn show_one(visitor: &mut dyn Visitor, rng: &mut Rng) {
+    let levels = if rng.once_in(8) {
+        127
+    } else {
+        1 + rng.below(8)
+    };
+    let size = 1 + rng.below(60);
+    let tree = grow(rng, size, levels);
+    show_writes(visitor, &tree);
+    let bytes = by_the_crate(&tree);
+    for port in port::all() {
+        let written = by_a_port(port, &tree);
+        assert!(
+            written.is_none_or(|written| written == bytes),
+            "{} writes other bytes than {bytes:x?}",
+            port.name()
+        );
+    }
+    show_skips(visitor, &tree, &bytes, rng);
+    show_walk(visitor, &tree, &bytes);
+    show_message(visitor, &tree, &bytes, rng);
+    for _ in 0..COPIES {
+        for how in Damage::ALL {
+            let copy = damaged(&bytes, how, rng);
+            show_skips(visitor, &tree, &copy, rng);
+            show_walk(visitor, &tree, &copy);
+        }
+    }
+}
+
+/// Every write of the tree, each by a fresh writer.
+fn show_writes(visitor: &mut dyn Visitor, tree: &Tree) {
+    for write in &tree.writes {
+        let call = write.call(0);
+        visitor.write(&call, call.text.len() + 16);
+    }
+}
+
+/// The tree's bytes, all written by one of the crate's writers.
+fn by_the_crate(tree: &Tree) -> Vec<u8> {
+    let mut writer = Writer::new(Vec::new(), true);
+    for write in &tree.writes {
+        put(&mut writer, &write.call(0)).expect("a growing buffer takes everything");
+    }
+    writer.transport
+}
+
+/// The tree's bytes, all written by a port, if it writes.
+fn by_a_port(port: &dyn Port, tree: &Tree) -> Option<Vec<u8>> {
+    let most: usize = tree
+        .writes
+        .iter()
+        .map(|write| 16 + write.call(0).text.len())
+        .sum();
+    let mut out = vec![0; most];
+    let mut at = 0;
+    for write in &tree.writes {
+        at = port.write(&write.call(at), &mut out)?.place;
+    }
+    out.truncate(at);
+    Some(out)
+}
+
+/// Skips of the bytes at depths around the tree's own, under the default limits and random ones.
+fn show_skips(visitor: &mut dyn Visitor, tree: &Tree, bytes: &[u8], rng: &mut Rng) {
+    let own = tree.levels;
+    for depth in [own.saturating_sub(1), own, (own + 1).min(127), 127] {
+        let call = ReadCall {
+            depth,
+            ..ReadCall::new(ReadStep::Skip, bytes, 0).of(tree.kind)
+        };
+        visitor.read(&call);
+    }
+    let limits = random_limits(rng);
+    let call = ReadCall {
+        depth: rng.below(128),
+        struct_depth: rng.below(limits.structs.unwrap_or(3).min(3) + 1),
+        ..ReadCall::new(ReadStep::Skip, bytes, 0)
+            .of(tree.kind)
+            .under(limits)
+    };
+    visitor.read(&call);
+    // somewhere inside, as any other type
+    let place = rng.below(bytes.len() + 1);
+    let kind = rng.pick(&TType::ALL);
+    visitor.read(&ReadCall::new(ReadStep::Skip, bytes, place).of(kind));
+}
+
+/// A struct read as its user reads it: field after field, each value read if it is a scalar and passed in any case.
+fn show_walk(visitor: &mut dyn Visitor, tree: &Tree, bytes: &[u8]) {
+    if tree.kind != TType::Struct {
+        return;
+    }
+    let mut at = 0;
+    loop {
+        let field = ReadCall::new(ReadStep::FieldBegin, bytes, at);
+        visitor.read(&field);
+        let kind = match next(&field) {
+            Some((byte, end)) if byte != 0 => {
+                at = end;
+                TType::from_byte(byte as u8).expect("a field that was read has a type")
+            }
+            _ => return,
+        };
+        visitor.read(&ReadCall::new(ReadStep::Scalar, bytes, at).of(kind));
+        let value = ReadCall::new(ReadStep::Skip, bytes, at).of(kind);
+        visitor.read(&value);
+        match next(&value) {
+            Some((_, end)) => at = end,
+            None => return,
+        }
+    }
+}
+
+/// An accepted read's first value and end.
+fn next(call: &ReadCall<'_>) -> Option<(u64, usize)> {
+    let answer = Plain.read(call)?;
+    answer
+        .refusal
+        .is_none()
+        .then_some((answer.values[0], answer.place))
+}
+
+fn random_limits(rng: &mut Rng) -> Limits {
+    let mut limit = |most| (!rng.once_in(3)).then(|| rng.below(most));
+    Limits {
+        message: limit(64),
+        frame: None,
+        structs: limit(8),
+        container: limit(6),
+        string: limit(16),
+    }
+}
+
+/// A message header before the bytes, whole and damaged.
+fn show_message(visitor: &mut dyn Visitor, tree: &Tree, bytes: &[u8], rng: &mut Rng) {
+    let name: Vec<u8> = (0..rng.below(10))
+        .map(|_| b'a' + rng.below(26) as u8)
+        .collect();
+    let strict = rng.once_in(2);
+    let call = WriteCall {
+        text: &name,
+        strict,
+        kind: 1 + rng.below(4) as u8,
+        number: rng.bits() & 0xffff_ffff,
+        ..WriteCall::new(WriteStep::MessageBegin, 0)
+    };
+    visitor.write(&call, name.len() + 12);
+    let mut writer = Writer::new(Vec::new(), strict);
+    put(&mut writer, &call).expect("a growing buffer takes everything");
+    let header = writer.transport.len();
+    let message = [&writer.transport, bytes].concat();
+    show_header(visitor, &message);
+    visitor.read(&ReadCall::new(ReadStep::Skip, &message, header).of(tree.kind));
+    for how in Damage::ALL {
+        show_header(visitor, &damaged(&message[..header], how, rng));
+    }
+}
+
+fn show_header(visitor: &mut dyn Visitor, bytes: &[u8]) {
+    for strict in [false, true] {
+        let call = ReadCall {
+            strict,
+            ..ReadCall::new(ReadStep::MessageBegin, bytes, 0)
+        };
+        visitor.read(&call);
+    }
+}

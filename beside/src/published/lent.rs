@@ -1,0 +1,48 @@
+//! A transport over lent bytes that remembers where its last read started.
+
+use std::fmt;
+use std::io::{self, Read};
+
+/// Bytes, a place in them, and the last item asked for.
+pub struct Lent<'a> {
+    bytes: &'a [u8],
+    /// The place of the next byte.
+    pub at: usize,
+    /// Where the last read started, whether it got its bytes or not.
+    pub item: usize,
+}
+
+impl<'a> Lent<'a> {
+    /// A transport that reads `bytes` from `at` on.
+    pub fn new(bytes: &'a [u8], at: usize) -> Lent<'a> {
+        Lent {
+            bytes,
+            at,
+            item: at,
+        }
+    }
+}
+
+impl Read for Lent<'_> {
+    fn read(&mut self, wanted: &mut [u8]) -> io::Result<usize> {
+        self.item = self.at;
+        let read = (&self.bytes[self.at..]).read(wanted)?;
+        self.at += read;
+        Ok(read)
+    }
+
+    // Whole items at once, so that a short one is seen to start where it starts.
+    fn read_exact(&mut self, wanted: &mut [u8]) -> io::Result<()> {
+        self.item = self.at;
+        (&self.bytes[self.at..]).read_exact(wanted)?;
+        self.at += wanted.len();
+        Ok(())
+    }
+}
+
+// The protocol prints its depth only together with its transport.
+impl fmt::Debug for Lent<'_> {
+    fn fmt(&self, f: &mut fmt::Formatter<'_>) -> fmt::Result {
+        f.write_str("Lent")
+    }
+}

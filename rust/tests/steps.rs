@@ -1,0 +1,126 @@
+//! Single reads and writes: what is written reads back, and each refusal that the skip can't give is given once.
+#![cfg(feature = "steps")]
+
+use turmyshge::steps::{self, Limits, MessageType, ReadCall, ReadStep, StepRefused, TType};
+use turmyshge::steps::{Absent, WriteCall, WriteStep};
+use turmyshge::Refusal;
+
+fn refused<T>(refusal: Refusal, place: usize) -> Result<T, StepRefused> {
+    Err(StepRefused { refusal, place })
+}
+
+#[test]
+fn numbers_read_back() {
+    let mut out = [0xee; 24];
+    let at = steps::write_i16(&mut out, 0, -2).unwrap();
+    let at = steps::write_i32(&mut out, at, i32::MIN).unwrap();
+    let at = steps::write_i64(&mut out, at, 1 << 40).unwrap();
+    let end = steps::write_double(&mut out, at, 98.75).unwrap();
+    assert_eq!((end, out[end]), (22, 0xee));
+    assert_eq!(steps::read_i16(&out, 0), Ok((-2, 2)));
+    assert_eq!(steps::read_i32(&out, 2), Ok((i32::MIN, 6)));
+    assert_eq!(steps::read_i64(&out, 6), Ok((1 << 40, 14)));
+    assert_eq!(steps::read_double(&out, 14), Ok((98.75, 22)));
+}
+
+#[test]
+fn a_message_reads_back() {
+    let mut out = [0; 32];
+    let end = steps::write_message_begin(&mut out, 0, true, "ab", MessageType::Call, 7).unwrap();
+    assert_eq!(
+        out[..end],
+        [0x80, 1, 0, 1, 0, 0, 0, 2, b'a', b'b', 0, 0, 0, 7]
+    );
+    let (message, read) = steps::read_message_begin(&out, 0, true, Limits::DEFAULT).unwrap();
+    assert_eq!((message.name, message.kind), ("ab", MessageType::Call));
+    assert_eq!((message.sequence, read), (7, end));
+}
+
+#[test]
+fn headers_read_back() {
+    let mut out = [0; 32];
+    let at = steps::write_field_begin(&mut out, 0, TType::Map, Some(9)).unwrap();
+    let end = steps::write_map_begin(&mut out, at, TType::String, TType::Uuid, 3).unwrap();
+    assert_eq!(steps::read_field_begin(&out, 0), Ok(((TType::Map, 9), at)));
+    let map = steps::read_map_begin(&out, at, Limits::DEFAULT);
+    assert_eq!(map, Ok(((TType::String, TType::Uuid, 3), end)));
+}
+
+#[test]
+fn a_frame_reads_back() {
+    let mut out = [0; 8];
+    let end = steps::write_frame(&mut out, 1, b"xyz").unwrap();
+    assert_eq!(
+        steps::read_frame(&out, 1, Limits::DEFAULT),
+        Ok((Some(5..8), end))
+    );
+    assert_eq!(
+        steps::read_frame(&out, end, Limits::DEFAULT),
+        Ok((None, end))
+    );
+}
+
+#[test]
+fn reads_are_refused() {
+    let none = Limits::NONE;
+    let low = Limits {
+        container: Some(1),
+        frame: Some(1),
+        message: Some(0),
+        ..none
+    };
+    let list = [3, 0, 0, 0, 2];
+    assert_eq!(
+        steps::read_message_begin(&[0; 4], 0, true, none),
+        refused(Refusal::BadVersion, 0)
+    );
+    assert_eq!(
+        steps::read_message_begin(&[0x80, 1, 0, 5], 0, true, none),
+        refused(Refusal::BadMessageType, 3)
+    );
+    assert_eq!(
+        steps::read_list_begin(&list, 0, low),
+        refused(Refusal::ContainerLimit, 1)
+    );
+    assert_eq!(
+        steps::read_string(&[0, 0, 0, 1, 0xff], 0, none),
+        refused(Refusal::NotUtf8, 4)
+    );
+    assert_eq!(
+        steps::read_frame(&[0, 0, 0, 2], 0, low),
+        refused(Refusal::FrameLimit, 0)
+    );
+    let build = steps::read(&ReadCall::new(ReadStep::Limits, &[], 0).under(low));
+    assert_eq!(build.into_result(), refused(Refusal::FrameAboveMessage, 0));
+    let end = steps::read(&ReadCall::new(ReadStep::StructEnd, &[], 0));
+    assert_eq!(end.into_result(), refused(Refusal::NoStructOpen, 0));
+}
+
+#[test]
+fn refused_writes_change_nothing() {
+    let mut out = [0xee; 4];
+    assert_eq!(
+        steps::write_i64(&mut out, 1, 0),
+        refused(Refusal::OutputFull, 1)
+    );
+    assert_eq!(
+        steps::write_field_begin(&mut out, 1, TType::I32, None),
+        refused(Refusal::Missing, 1)
+    );
+    let not_utf8 = WriteCall {
+        text: &[0xff],
+        ..WriteCall::new(WriteStep::String, 0)
+    };
+    let answer = steps::write(&not_utf8, &mut out).unwrap();
+    assert_eq!(answer.into_result(), refused(Refusal::NotUtf8, 0));
+    let no_value_type = WriteCall {
+        absent: Absent {
+            first: false,
+            second: true,
+        },
+        ..WriteCall::new(WriteStep::MapBegin, 2)
+    };
+    let answer = steps::write(&no_value_type, &mut out).unwrap();
+    assert_eq!(answer.into_result(), refused(Refusal::Missing, 2));
+    assert_eq!(out, [0xee; 4]);
+}
