@@ -3,12 +3,12 @@ use mathlib.Core.Path.{_≡_, refl, sym, ap, _∙_}
 use mathlib.Core.Bool.{Bool, true, false}
 use mathlib.Core.List.{List, [], _++_, append-nil, append-assoc}
 use Prim.Native.Nat.{ℕ, _+_, _-_, _<_, _≤_}
-use native.Mathlib.Nat.{le-of-eq, zero-add}
+use native.Mathlib.Nat.{le-of-eq, zero-add, add-zero}
 use native.Mathlib.Omega.{arith}
 use borrow.Author.Tests.{lt-ltb, le-ltb, ltb-false}
 use borrow.Rule.Slice.PartMut.{putMid}
 use lib.Dec.{ltb}
-use lib.ListN.{length, take, drop, length-append, length-take, length-drop, drop-of-length-le}
+use lib.ListN.{length, take, drop, length-append, length-take, length-drop, drop-of-length-le, take-append-drop}
 use lib.Seq.{take-all, take-at, drop-drop, drop-append-add}
 use Rattle.wire.specs.Answer.{Answer, gives, refused, refuseIf, andThen}
 use Rattle.wire.specs.Refusals.{toldMoved, toldRefusal}
@@ -141,6 +141,19 @@ behind out hd bs p {d} e h f g =
     let same : length d ≡ length out = ap length first ∙ length-laid hd out 0 before in
     let place : p ≡ 0 + length hd = omega arith in
     landed bs d p (omega arith) g ∙ rw (first, place) (laid-behind hd out 0 bs before) ∙ sym (front-laid (hd ++ bs) out h)
+
+-- a write of nothing leaves the buffer as it was
+pub laid-none : (out : List ℕ) (at : ℕ) → laid [] out at ≡ out
+unfolding laid
+laid-none out at = simp (append-nil, add-zero) (take-append-drop at out)
+
+pub nothing-put : (output : Answer (List ℕ)) (out : List ℕ) (at : ℕ) {q : ℕ} {r : Moved} → gives [] q ≡ output → toldMoved r ≡ roomFor (length out) at 0
+    → Wrote r out out (writeAt output out at)
+nothing-put output out at {q} {r} e t = go r t
+  where
+    go : (r : Moved) → toldMoved r ≡ roomFor (length out) at 0 → Wrote r out out (writeAt output out at)
+    go (M.To c) t = wrote (writes output out at 0 e refl t (sym (laid-none out at)))
+    go (M.Refused x) t = refuses-write (write-no-room output out at 0 e refl t)
 
 -- a writer's promise settles its answer and the buffer
 pub wrote-settled : {r r' : Moved} {new new' old : List ℕ} {write : Answer (List ℕ)} → Wrote r new old write → Wrote r' new' old write → (r ≡ r') × (new ≡ new')

@@ -1,0 +1,26 @@
+-- Assumes nothing.
+use borrow.Author.Needs.{needs}
+use mathlib.Core.Path.{ap}
+use Rattle.wire.proofs.Answers.{told-as}
+use Rattle.text.specs.Texts.{partOf}
+use Rattle.text.proofs.Texts.{handed}
+use Rattle.framed.specs.Frames.{payloadOf}
+use Rattle.framed.specs.Told.{toldFrame}
+use Rattle.framed.proofs.Frames.{payload-lies}
+use Rattle.framed.proofs.payload_part.Statement.{statement}
+use Rattle.framed.proofs.payload_part.Tie as tie
+
+pub payload-part-spec : {M : Type 1} → statement M
+payload-part-spec =
+    tie.close
+    (tie.spec
+    (λ c κs. search needs)
+    (λ c. search needs)
+    (λ c κs. search needs)
+    (λ c. search needs)
+    (λ c. search needs)
+    (λ c. search needs)
+    (λ c. search needs)
+    (λ c. handed _ (payload-lies _ _ _ (told-as toldFrame (c .before .before .payload .given .1) (c .before .before .before .before .read-frame .ensures))) (ap payloadOf (told-as toldFrame (c .before .before .payload .given .1) (c .before .before .before .before .read-frame .ensures))) (c .part .ensures))
+    (λ c. ap (partOf _) (ap payloadOf (told-as toldFrame (c .before .enum-told .given .1) (c .before .before .before .read-frame .ensures))))
+    (λ c. ap (partOf _) (ap payloadOf (told-as toldFrame (c .before .enum-told2 .given .1) (c .before .before .before .read-frame .ensures)))))

@@ -1,0 +1,33 @@
+-- Frames: what reading one answers, and the bytes of one that is written.
+use Prim.Native.Nat.{ℕ}
+use mathlib.Core.Bool.{cond}
+use mathlib.Core.List.{List, []}
+use lib.Dec.{eqb}
+use lib.ListN.{length}
+use Rattle.wire.specs.Answer.{Answer, gives, refused, andThen}
+use Rattle.config.specs.declared.limit.Limit.{Limit}
+use Rattle.text.specs.Texts.{sizedAt}
+use Rattle.text.specs.declared.Span.{Span}
+use Rattle.write.specs.Outputs.{bytesOutput}
+
+-- a frame, by where its payload stands, or that there is none
+pub data Next : Type 0 where
+  frame : Span → Next
+  end : Next
+
+-- "no byte left is End (added). Else header (1), 6, 18, body (1)": a size, then as many bytes, with 18 for the limit
+unfoldable pub frameAt : Limit → List ℕ → ℕ → Answer Next
+frameAt limit s at =
+    cond (eqb at (length s)) (gives end at)
+    (andThen (sizedAt 18 limit s at) λ payload next.
+    gives (frame payload) next)
+
+-- where the payload stands in what was read, if there is one
+abbrev pub payloadOf : Answer Next → Answer Span
+payloadOf (gives (frame p) next) = gives p next
+payloadOf (gives end next) = refused 0 next
+payloadOf (refused n p) = refused n p
+
+-- "an empty payload writes nothing; else length and payload", with 16
+unfoldable pub frameOutput : List ℕ → ℕ → Answer (List ℕ)
+frameOutput payload at = cond (eqb (length payload) 0) (gives [] at) (bytesOutput payload at)

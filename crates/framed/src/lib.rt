@@ -1,0 +1,54 @@
+// Frames: a size, then as many bytes. The payload of a frame that is read is a part of the lent bytes.
+use config::configuration::TConfiguration;
+use text::Span;
+use text::TextRead;
+use wire::cursor::Cursor;
+use wire::cursor::Moved;
+use wire::refusal::Kind;
+use wire::refusal::Refusal;
+ghost use mathlib.Core.Path.{_≡_};
+ghost use Rattle.wire.specs.Writes.{Wrote, writeAt};
+ghost use Rattle.text.specs.Texts.{partOf};
+ghost use Rattle.framed.specs.Frames.{frameAt, payloadOf, frameOutput};
+ghost use Rattle.framed.specs.Told.{toldFrame};
+
+// A frame by the place of its payload, with the cursor after it, or no more bytes.
+pub enum FrameRead {
+    Frame(Span, Cursor),
+    End(Cursor),
+    Refused(Refusal),
+}
+
+pub fn read_frame(bytes: &[u8], cursor: Cursor, config: TConfiguration) -> FrameRead
+    ensures { λ r. ⌜ toldFrame r ≡ frameAt (config .«max_frame_size») (now (bytes .entry)) (cursor .at) ⌝ }
+{
+    if cursor.at == bytes.len() {
+        return FrameRead::End(cursor);
+    }
+    let limit = config.max_frame_size;
+    match text::read_sized(bytes, cursor, limit, Kind::FrameLimit) {
+        TextRead::Value(payload, next) => FrameRead::Frame(payload, next),
+        TextRead::Refused(refusal) => FrameRead::Refused(refusal),
+    }
+}
+
+// The payload's own bytes, none at the end and where the frame is refused.
+pub fn payload_part(bytes: &[u8], cursor: Cursor, config: TConfiguration) -> &[u8]
+    ensures { λ r. ⌜ now r ≡ partOf (now (bytes .entry)) (payloadOf (frameAt (config .«max_frame_size») (now (bytes .entry)) (cursor .at))) ⌝ }
+{
+    match read_frame(bytes, cursor, config) {
+        FrameRead::Frame(payload, _) => text::part(bytes, payload),
+        FrameRead::End(_) => &bytes[..0],
+        FrameRead::Refused(_) => &bytes[..0],
+    }
+}
+
+// An empty payload writes nothing. The frame limit is the reader's.
+pub fn write_frame(out: &mut [u8], cursor: Cursor, payload: &[u8]) -> Moved
+    ensures { λ r. ⌜ Wrote r (now (out .exit)) (now (out .entry)) (writeAt (frameOutput (now (payload .entry)) (cursor .at)) (now (out .entry)) (cursor .at)) ⌝ }
+{
+    if payload.len() == 0 {
+        return cursor.room(out.len(), 0);
+    }
+    write::string::write_bytes(out, cursor, payload)
+}
