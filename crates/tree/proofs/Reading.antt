@@ -19,9 +19,10 @@ use Rattle.wire.proofs.Within.{whole}
 use Rattle.number.specs.BigEndian.{big, bytesOf}
 use Rattle.number.specs.Reads.{numberAt, byteAt, i32At}
 use Rattle.number.proofs.Widths.{written, length-bytesOf}
-use Rattle.config.specs.Limits.{reached}
+use Rattle.config.specs.Limits.{above, reached}
+use Rattle.config.specs.declared.limit.Limit.{Limit}
 use Rattle.config.specs.declared.configuration.TConfiguration.{TConfiguration}
-use Rattle.text.specs.Texts.{span, sizeAt, bytesAt}
+use Rattle.text.specs.Texts.{span, sizedLayout, sizeAt, sizedAt, bytesAt}
 use Rattle.text.proofs.Texts as texts
 use Rattle.read.specs.Headers.{typeAt, field, fieldAt, countAt, list, listAt, map, mapAt, structBeginAt}
 use Rattle.read.proofs.Headers as headers
@@ -59,15 +60,20 @@ size-reads {s} {at} {e} n h p =
     let read : gives (pos n) e ≡ i32At s at = ap (λ (z : ℤ). gives z e) (sym value) ∙ number-reads (bytesOf 4 n) 4 (toZ w32) (length-bytesOf 4 n) p in
     texts.size s at read (le-ltb n 0 zero-le)
 
-pub text-reads : {s : List ℕ} {at e : ℕ} (c : TConfiguration) (b : List ℕ) → TextFits c (length b) → Part s at e (bytesOf 4 (length b) ++ b)
-    → gives (span (at + 4) e) e ≡ bytesAt (c .«max_string_size») s at
-text-reads {s} {at} {e} c b f p =
+-- a size and its bytes, with any number for the limit
+pub sized-reads : {s : List ℕ} {at e : ℕ} (over : ℕ) (limit : Limit) (b : List ℕ) → length b < 2147483648 → above (length b) limit ≡ false
+    → Part s at e (sizedLayout b) → gives (span (at + 4) e) e ≡ sizedAt over limit s at
+sized-reads {s} {at} {e} over limit b f g p =
     let sp = part-split (bytesOf 4 (length b)) b p in
     let l = part-length (sp .left) in
     let mid : sp .mid ≡ at + 4 = omega (arith, length-bytesOf 4 (length b), l) in
-    let size = size-reads (length b) (f .positive) (sp .left) in
+    let size = size-reads (length b) f (sp .left) in
     ap (λ (k : ℕ). gives (span k e) e) (sym mid)
-    ∙ texts.whole 7 (c .«max_string_size») s at size (f .string) (part-within b (length b) refl (sp .right))
+    ∙ texts.whole over limit s at size g (part-within b (length b) refl (sp .right))
+
+pub text-reads : {s : List ℕ} {at e : ℕ} (c : TConfiguration) (b : List ℕ) → TextFits c (length b) → Part s at e (sizedLayout b)
+    → gives (span (at + 4) e) e ≡ bytesAt (c .«max_string_size») s at
+text-reads c b f p = sized-reads 7 (c .«max_string_size») b (f .positive) (f .string) p
 
 pub count-reads : {s : List ℕ} {at e : ℕ} (c : TConfiguration) (least n : ℕ) → SizeFits c least n → Part s at e (bytesOf 4 n)
     → gives (pos n) e ≡ countAt c least s at

@@ -1,3 +1,5 @@
 pub mod Headers
+pub mod MessagesBack
 pub mod Outputs
+pub mod ReadsBack
 pub mod Whole

@@ -1,0 +1,39 @@
+-- A frame that is written reads back, but for an empty payload, which writes nothing. Assumes nothing.
+use Prim.Native.Nat.{ℕ, _<_}
+use mathlib.Core.Path.{_≡_, _∙_}
+use mathlib.Core.Bool.{false}
+use mathlib.Core.List.{List}
+use native.Mathlib.Omega.{arith}
+use lib.ListN.{length, length-append}
+use Rattle.wire.specs.Answer.{gives}
+use Rattle.wire.specs.Writes.{writeAt}
+use Rattle.number.specs.BigEndian.{bytesOf}
+use Rattle.number.proofs.Widths.{length-bytesOf}
+use Rattle.config.specs.Limits.{above}
+use Rattle.config.specs.declared.limit.Limit.{Limit}
+use Rattle.text.specs.Texts.{bytesIn}
+use Rattle.text.specs.declared.Span.{Span}
+use Rattle.text.proofs.Fronts.{length-sized}
+use Rattle.tree.proofs.Parts.{part-length}
+use Rattle.write.proofs.Outputs.{short}
+use Rattle.write.proofs.ReadsBack.{stands, sized-found}
+use Rattle.framed.specs.Frames.{frame, frameAt, frameOutput}
+use Rattle.framed.proofs.Frames.{a-frame, full}
+
+-- a frame that was read, and that its payload is the one that was written
+pub record Framed (limit : Limit) (s : List ℕ) (at : ℕ) (payload : List ℕ) (next : ℕ) : Type 0 where
+  pub place : Span
+  pub gave : gives (frame place) next ≡ frameAt limit s at
+  pub bytes : bytesIn s place ≡ payload
+
+pub frame-back : (limit : Limit) (payload out : List ℕ) (at : ℕ) {new : List ℕ} {next : ℕ} → 0 < length payload → length payload < 2147483648
+    → above (length payload) limit ≡ false → gives new next ≡ writeAt (frameOutput payload at) out at → Framed limit new at payload next
+frame-back limit payload out at some small below e =
+    let p = stands _ out at (short payload at (omega arith) ∙ full payload at (λ z. omega arith)) e in
+    let found = sized-found 18 limit payload small below p in
+    let l = part-length p in
+    record {
+      place = found .place;
+      gave = a-frame limit _ at (λ z. omega (arith, length-sized payload, p .from, p .within)) (found .gave);
+      bytes = found .bytes;
+    }

@@ -1,0 +1,190 @@
+-- What is written reads back, over any bytes before and after: each kind by the definition of its read, at the place where it was written, to the
+-- place where the write ended. Not so, by 01: a Stop with an id, a negative size, a NaN's payload as a float. Assumes nothing.
+use Prim.Native.Nat.{ℕ, _+_, _-_, _%_, _^_, _<_, _≤_, zero-le}
+use mathlib.Core.Path.{_≡_, refl, sym, ap, subst, _∙_}
+use mathlib.Core.Bool.{Bool, true, false, not}
+use mathlib.Core.List.{List, [], _∷_, _++_, append-assoc}
+use native.Mathlib.Nat.{mod-eq-of-lt, add-sub-cancel-left}
+use native.Mathlib.Omega.{arith}
+use borrow.Author.Tests.{ltb-false}
+use lib.Dec.{T, ltb, eqb}
+use lib.Ieee.{Float, binary64, fits, ofBits, toBits}
+use lib.Ieee.Bits.{ofBits-toBits, toBits-lt}
+use lib.IntN.{ℤ, pos}
+use lib.ListN.{length, take, drop, length-append, length-take}
+use lib.Seq.{take-append-seam, drop-at}
+use mir.Syntax.{Width, w8, w16, w32, w64}
+use mir.Val.{SFits, bits, toZ, ofZ}
+use Rattle.wire.specs.Answer.{Answer, gives, refused, andThen, refuseIf}
+use Rattle.wire.specs.Codes.{typeByte, typeOf, isStop, asRead, leastSize, messageByte}
+use Rattle.wire.specs.Writes.{laid, writeAt, putAt}
+use Rattle.wire.specs.declared.codes.TType.{TType}
+use Rattle.wire.specs.declared.codes.TType.the-variants as T
+use Rattle.wire.proofs.Answers.{passed, went}
+use Rattle.wire.proofs.RoundTrips.{type-written, type-read}
+use Rattle.wire.proofs.Writes.{length-laid}
+use Rattle.number.specs.BigEndian.{big, bytesOf}
+use Rattle.number.specs.Reads.{numberAt, byteAt, boolAt, i8At, i16At, i32At, i64At, doubleAt}
+use Rattle.number.proofs.Widths.{written, signed-written, length-bytesOf}
+use Rattle.config.specs.Limits.{above}
+use Rattle.config.specs.declared.limit.Limit.{Limit}
+use Rattle.config.specs.declared.configuration.TConfiguration.{TConfiguration}
+use Rattle.text.specs.Texts.{span, sizedLayout, bytesIn, sizedAt, bytesAt, stringAt, uuidAt}
+use Rattle.text.specs.declared.Span.{Span}
+use Rattle.text.proofs.Texts as texts
+use Rattle.read.specs.Headers.{field, fieldAt, list, listAt, asSet, setAt, map, mapAt}
+use Rattle.read.specs.Layouts.{listLayout}
+use Rattle.read.proofs.Headers as headers
+use Rattle.tree.specs.Part.{Part}
+use Rattle.tree.specs.Tree.{Reads, TextFits, SizeFits}
+use Rattle.tree.proofs.Parts.{part-length, part-split}
+use Rattle.tree.proofs.Reading.{part-within, number-reads, sized-reads, field-reads, stop-reads, list-reads, map-reads}
+use Rattle.write.specs.Outputs.{boolByte, bytesOutput, namedOutput, fieldOutput, mapOutput}
+use Rattle.write.specs.declared.field.FieldId.the-variants as Id
+use Rattle.write.specs.declared.container.MapType.the-variants as Of-map
+use Rattle.write.proofs.Outputs.{Name, short, with-name, with-id, stop-alone, both-types}
+
+-- bytes that were laid stand where they were laid
+pub laid-part : (bs out : List ℕ) (at : ℕ) → at + length bs ≤ length out → Part (laid bs out at) at (at + length bs) bs
+unfolding laid
+laid-part bs out at h =
+    let head : length (take at out) ≡ at = rw (length-take) (omega arith) in
+    record {
+      from = omega arith;
+      within = rw (length-laid bs out at h) h;
+      bytes = rw (add-sub-cancel-left, append-assoc, drop-at (take at out) _ at head, take-append-seam);
+    }
+
+-- what a write put down stands from its place to its end
+pub stands : (output : Answer (List ℕ)) (out : List ℕ) (at : ℕ) {bs new : List ℕ} {q next : ℕ} → gives bs q ≡ output → gives new next ≡ writeAt output out at
+    → Part new at next bs
+unfolding writeAt andThen
+stands output out at {bs} {new} {q} {next} e w =
+    let a = passed (ltb (length out) at) 2 at _ (rw (← e) at w) in
+    let b = passed (ltb (length out - at) (length bs)) 15 at (gives (laid bs out at) (at + length bs)) (a .gave) in
+    let room : at + length bs ≤ length out = omega (arith, ltb-false (length out) at (a .test), ltb-false (length out - at) (length bs) (b .test)) in
+    let buffer : new ≡ laid bs out at = cc (b .gave) in
+    let place : next ≡ at + length bs = cc (b .gave) in
+    rw (buffer, place) (laid-part bs out at room)
+
+-- a type's byte is that of the type it is read as
+same-byte : (t : TType) → typeByte (asRead t) ≡ typeByte t
+same-byte t = type-read (typeByte t) (asRead t) (type-written t)
+
+reads-as : (t : TType) → Reads (asRead t)
+reads-as t = rw (same-byte t) (type-written t)
+
+-- a text or a UUID that was read, and that its bytes are those that were written
+pub record Found (s b : List ℕ) (read : Answer Span) (next : ℕ) : Type 0 where
+  pub place : Span
+  pub gave : gives place next ≡ read
+  pub bytes : bytesIn s place ≡ b
+
+-- a size and its bytes, with any number for the limit
+pub sized-found : {s : List ℕ} {at e : ℕ} (over : ℕ) (limit : Limit) (b : List ℕ) → length b < 2147483648 → above (length b) limit ≡ false
+    → Part s at e (sizedLayout b) → Found s b (sizedAt over limit s at) e
+sized-found {s} {at} {e} over limit b f g p =
+    let sp = part-split (bytesOf 4 (length b)) b p in
+    let l = part-length (sp .left) in
+    let mid : sp .mid ≡ at + 4 = omega (arith, length-bytesOf 4 (length b), l) in
+    record { place = span (at + 4) e; gave = sized-reads over limit b f g p; bytes = rw mid at (sp .right .bytes) }
+
+module _ {s : List ℕ} {at e : ℕ} (c : TConfiguration) (b : List ℕ) (f : TextFits c (length b)) (p : Part s at e (sizedLayout b)) where
+  pub text-found : Found s b (bytesAt (c .«max_string_size») s at) e
+  text-found = sized-found 7 (c .«max_string_size») b (f .positive) (f .string) p
+
+  pub string-found : Name b → Found s b (stringAt (c .«max_string_size») s at) e
+  string-found n =
+      let t = text-found in
+      record {
+        place = t .place;
+        gave = texts.string (c .«max_string_size») s at (t .gave) (rw (t .bytes) (n .utf8));
+        bytes = t .bytes;
+      }
+
+module _ (out : List ℕ) (at : ℕ) {new : List ℕ} {next : ℕ} where
+  -- numbers, at any width
+  pub number-back : {A : Type 0} (w n : ℕ) (f : ℕ → A) → gives new next ≡ putAt (bytesOf w n) out at → gives (f (n % 256 ^ w)) next ≡ numberAt w f new at
+  number-back w n f e =
+      ap (λ (m : ℕ). gives (f m) next) (sym (written w n))
+      ∙ number-reads (bytesOf w n) w f (length-bytesOf w n) (stands _ out at refl e)
+
+  -- signed ones, at any width whose bits are the bytes'
+  pub signed-back : (w : ℕ) (k : Width) (v : ℤ) → 256 ^ w ≡ 2 ^ bits k → SFits k v → gives new next ≡ putAt (bytesOf w (ofZ k v)) out at
+      → gives v next ≡ numberAt w (toZ k) new at
+  signed-back w k v s f e =
+      ap (λ (z : ℤ). gives z next) (sym (signed-written w k v s f))
+      ∙ number-reads (bytesOf w (ofZ k v)) w (toZ k) (length-bytesOf w (ofZ k v)) (stands _ out at refl e)
+
+  pub i8-back : (v : ℤ) → SFits w8 v → gives new next ≡ putAt (bytesOf 1 (ofZ w8 v)) out at → gives v next ≡ i8At new at
+  i8-back v f e = signed-back 1 w8 v refl f e
+
+  pub i16-back : (v : ℤ) → SFits w16 v → gives new next ≡ putAt (bytesOf 2 (ofZ w16 v)) out at → gives v next ≡ i16At new at
+  i16-back v f e = signed-back 2 w16 v refl f e
+
+  pub i32-back : (v : ℤ) → SFits w32 v → gives new next ≡ putAt (bytesOf 4 (ofZ w32 v)) out at → gives v next ≡ i32At new at
+  i32-back v f e = signed-back 4 w32 v refl f e
+
+  pub i64-back : (v : ℤ) → SFits w64 v → gives new next ≡ putAt (bytesOf 8 (ofZ w64 v)) out at → gives v next ≡ i64At new at
+  i64-back v f e = signed-back 8 w64 v refl f e
+
+  pub byte-back : (b : ℕ) → gives new next ≡ putAt (b ∷ []) out at → gives b next ≡ byteAt new at
+  unfolding big
+  byte-back b e = ap (λ (n : ℕ). gives n next) (omega arith) ∙ number-reads (b ∷ []) 1 (λ (n : ℕ). n) refl (stands _ out at refl e)
+
+  pub bool-back : (b : Bool) → gives new next ≡ putAt (boolByte b ∷ []) out at → gives b next ≡ boolAt new at
+  unfolding big
+  bool-back true e = number-reads (1 ∷ []) 1 (λ (n : ℕ). not (eqb n 0)) refl (stands _ out at refl e)
+  bool-back false e = number-reads (0 ∷ []) 1 (λ (n : ℕ). not (eqb n 0)) refl (stands _ out at refl e)
+
+  -- a double, by its pattern; the one NaN too
+  pub double-back : (x : Float) → T (fits binary64 x) → gives new next ≡ putAt (bytesOf 8 (toBits binary64 x)) out at → gives x next ≡ doubleAt new at
+  double-back x f e =
+      let whole : toBits binary64 x % 256 ^ 8 ≡ toBits binary64 x = mod-eq-of-lt (toBits-lt binary64 x f) in
+      ap (λ (y : Float). gives y next) (sym (ap (ofBits binary64) whole ∙ ofBits-toBits binary64 x f))
+      ∙ number-back 8 (toBits binary64 x) (ofBits binary64) e
+
+  pub uuid-back : (id : List ℕ) → length id ≡ 16 → gives new next ≡ putAt id out at → Found new id (uuidAt new at) next
+  uuid-back id l e =
+      let p = stands _ out at refl e in
+      record { place = span at next; gave = texts.uuid new at (part-within id 16 l p); bytes = p .bytes }
+
+  -- bytes, and strings that are UTF-8
+  pub bytes-back : (c : TConfiguration) (b : List ℕ) → TextFits c (length b) → gives new next ≡ writeAt (bytesOutput b at) out at
+      → Found new b (bytesAt (c .«max_string_size») new at) next
+  bytes-back c b f e = text-found c b f (stands _ out at (short b at (omega (arith, f .positive))) e)
+
+  pub string-back : (c : TConfiguration) (b : List ℕ) → TextFits c (length b) → Name b → gives new next ≡ writeAt (namedOutput b (sizedLayout b) at) out at
+      → Found new b (stringAt (c .«max_string_size») new at) next
+  string-back c b f n e = string-found c b f (stands _ out at (with-name (sizedLayout b) at n) e) n
+
+  -- headers: a type comes back as its byte reads
+  pub field-back : (t : TType) (id : ℤ) → SFits w16 id → isStop t ≡ false → gives new next ≡ writeAt (fieldOutput t (Id.Of id) at) out at
+      → gives (field (asRead t) id) next ≡ fieldAt new at
+  field-back t id f s e =
+      let p = stands _ out at (with-id t at refl) e in
+      let going : isStop (asRead t) ≡ false = rw (same-byte t) s in
+      ap (λ (z : ℤ). gives (field (asRead t) z) next) (sym (signed-written 2 w16 id refl f))
+      ∙ field-reads (asRead t) (bytesOf 2 (ofZ w16 id)) (reads-as t) going (length-bytesOf 2 (ofZ w16 id)) (rw (same-byte t) p)
+
+  -- "a Stop without an id with id 0": by the stop writer, and as a field that has none
+  pub stop-back : gives new next ≡ putAt (typeByte T.Stop ∷ []) out at → gives (field T.Stop (pos 0)) next ≡ fieldAt new at
+  stop-back e = stop-reads (stands _ out at refl e)
+
+  pub stop-field-back : gives new next ≡ writeAt (fieldOutput T.Stop Id.Absent at) out at → gives (field T.Stop (pos 0)) next ≡ fieldAt new at
+  stop-field-back e = stop-reads (stands _ out at (stop-alone T.Stop at refl refl) e)
+
+  pub list-back : (c : TConfiguration) (t : TType) (n : ℕ) → SizeFits c (leastSize (asRead t)) n
+      → gives new next ≡ putAt (listLayout t (ofZ w32 (pos n))) out at → gives (list (asRead t) (pos n)) next ≡ listAt c new at
+  list-back c t n f e = list-reads c (asRead t) n (reads-as t) f (rw (same-byte t) (stands _ out at refl e))
+
+  pub set-back : (c : TConfiguration) (t : TType) (n : ℕ) → SizeFits c (leastSize (asRead t)) n
+      → gives new next ≡ putAt (listLayout t (ofZ w32 (pos n))) out at → gives (asSet (list (asRead t) (pos n))) next ≡ setAt c new at
+  set-back c t n f e = headers.a-set c new at (list-back c t n f e)
+
+  pub map-back : (c : TConfiguration) (k v : TType) (n : ℕ) → SizeFits c (leastSize (asRead k) + leastSize (asRead v)) n
+      → gives new next ≡ writeAt (mapOutput (Of-map.Of k) (Of-map.Of v) (pos n) at) out at
+      → gives (map (asRead k) (asRead v) (pos n)) next ≡ mapAt c new at
+  map-back c k v n f e =
+      let p = stands _ out at (both-types (pos n) at (Of-map.Of v) refl refl) e in
+      map-reads c (asRead k) (asRead v) n (reads-as k) (reads-as v) f (rw (same-byte k, same-byte v) p)
