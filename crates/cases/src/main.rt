@@ -2,12 +2,15 @@
 use config::configuration::Built;
 use config::configuration::TConfiguration;
 use config::limit::Limit;
+use framed::FrameRead;
 use message::MessageRead;
 use number::I32Read;
 use skip::till_depth::Skipped;
 use wire::codes::TType;
 use wire::cursor::Cursor;
+use wire::cursor::Moved;
 use wire::refusal::Refusal;
+use write::field::FieldId;
 
 fn print(text: &[u8]) {
     io::write_all(1, text);
@@ -114,6 +117,44 @@ fn show_skips() {
     show_skip(b"\xFF\xFF\xFF\xFF", TType::String, 1);
 }
 
+fn show_frame(bytes: &[u8]) {
+    let start = Cursor::new(0);
+    let limits = TConfiguration::default();
+    match framed::read_frame(bytes, start, limits) {
+        FrameRead::Frame(_, next) => {
+            let payload = framed::payload_part(bytes, start, limits);
+            print(b"payload of ");
+            io::print_decimal(1, payload.len() as u64);
+            print(b", place ");
+            io::print_decimal(1, next.at as u64);
+            print(b"\n");
+        }
+        FrameRead::End(_) => print(b"end\n"),
+        FrameRead::Refused(refusal) => print_refusal(refusal),
+    }
+}
+
+fn show_field(field_type: TType, id: FieldId) {
+    let mut out = [0xFF; 4];
+    match write::field::write_field_begin(&mut out, Cursor::new(0), field_type, id) {
+        Moved::To(next) => {
+            io::print_decimal(1, next.at as u64);
+            print(b" bytes, the buffer then");
+            print_byte(out[0]);
+            print_byte(out[1]);
+            print_byte(out[2]);
+            print_byte(out[3]);
+            print(b"\n");
+        }
+        Moved::Refused(refusal) => print_refusal(refusal),
+    }
+}
+
+fn print_byte(b: u8) {
+    print(b" ");
+    io::print_decimal(1, b as u64);
+}
+
 fn main() {
     print(b"W1 strict read of 80 01 00 01 00 00 00 02 61 62 00 00 00 07: ");
     show_message(b"\x80\x01\x00\x01\x00\x00\x00\x02ab\x00\x00\x00\x07", true);
@@ -122,6 +163,14 @@ fn main() {
     print(b"W3 strict read of W2: ");
     show_message(b"\x00\x00\x00\x02ab\x01\x00\x00\x00\x07", true);
     show_skips();
+    print(b"W11 frame 00 00 00 00: ");
+    show_frame(b"\x00\x00\x00\x00");
+    print(b"W12 field Stop with id 5 written: ");
+    show_field(TType::Stop, FieldId::Of(5));
+    print(b"field Stop without an id written: ");
+    show_field(TType::Stop, FieldId::Absent);
+    print(b"field I32 without an id written: ");
+    show_field(TType::I32, FieldId::Absent);
     print(b"i32 of FF FF FF FE: ");
     show_i32(b"\xFF\xFF\xFF\xFE", 0);
     print(b"i32 of 00 00 00: ");

@@ -4,11 +4,9 @@ use mathlib.Core.Path.{_≡_, _∙_}
 use mathlib.Core.Bool.{false}
 use mathlib.Core.List.{List}
 use native.Mathlib.Omega.{arith}
-use lib.ListN.{length, length-append}
+use lib.ListN.{length}
 use Rattle.wire.specs.Answer.{gives}
 use Rattle.wire.specs.Writes.{writeAt}
-use Rattle.number.specs.BigEndian.{bytesOf}
-use Rattle.number.proofs.Widths.{length-bytesOf}
 use Rattle.config.specs.Limits.{above}
 use Rattle.config.specs.declared.limit.Limit.{Limit}
 use Rattle.text.specs.Texts.{bytesIn}

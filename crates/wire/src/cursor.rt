@@ -56,8 +56,8 @@ impl Cursor {
         Moved::To(self)
     }
     // Past an output of so many bytes, in a buffer of so many: every write starts here.
-    pub fn room(self, len: usize, width: usize) -> Moved
-        ensures { λ r. ⌜ toldMoved r ≡ roomFor len (self .at) width ⌝ }
+    pub fn room(self, len: usize, size: usize) -> Moved
+        ensures { λ r. ⌜ toldMoved r ≡ roomFor len (self .at) size ⌝ }
     {
         let at = self.at;
         if len < at {
@@ -66,12 +66,12 @@ impl Cursor {
                 place: at,
             });
         }
-        if len - at < width {
+        if len - at < size {
             return Moved::Refused(Refusal {
                 kind: Kind::OutputFull,
                 place: at,
             });
         }
-        Moved::To(Cursor { at: at + width })
+        Moved::To(Cursor { at: at + size })
     }
 }

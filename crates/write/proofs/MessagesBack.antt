@@ -1,6 +1,6 @@
 -- A message that is written reads back: a strict one by any reader, "a legacy message needs a non-strict reader". Assumes nothing.
-use Prim.Native.Nat.{ℕ, _+_, _/_, _%_, _<_, _≤_}
-use mathlib.Core.Path.{_≡_, refl, sym, ap, subst, _∙_}
+use Prim.Native.Nat.{ℕ, _+_, _<_, _≤_}
+use mathlib.Core.Path.{_≡_, refl, sym, ap, _∙_}
 use mathlib.Core.Bool.{Bool, true, false}
 use mathlib.Core.List.{List, [], _∷_, _++_}
 use native.Mathlib.Omega.{arith}
@@ -57,7 +57,7 @@ clear-top n h p =
     rw (first .byte) (omega arith)
 
 module _ (c : TConfiguration) (name : List ℕ) (t : TMessageType) (seq : ℤ) (f : TextFits c (length name)) (n : Name name) (g : SFits w32 seq)
-  {s : List ℕ} {at e : ℕ} where
+    {s : List ℕ} {at e : ℕ} where
   strict-reads : (reader : Bool) → Part s at e (messageLayout true name t (ofZ w32 seq)) → Headed s name t seq (messageAt reader (c .«max_string_size») s at) e
   strict-reads reader p =
       let head : List ℕ = 0x80 ∷ 0x01 ∷ 0x00 ∷ messageByte t ∷ [] in
@@ -73,8 +73,8 @@ module _ (c : TConfiguration) (name : List ℕ) (t : TMessageType) (seq : ℤ) (
       record {
         place = found .place;
         gave = messages.newer reader (c .«max_string_size») s at (part-within head 4 refl (sq .left)) high (one .byte) (two .byte)
-        (messages.versioned (c .«max_string_size») s (at + 3) typed (found .gave)
-        (messages.sequence s (sp .mid) (found .place) t (sequence-reads seq g (sp .right))));
+            (messages.versioned (c .«max_string_size») s (at + 3) typed (found .gave)
+            (messages.sequence s (sp .mid) (found .place) t (sequence-reads seq g (sp .right))));
         bytes = found .bytes;
       }
 
@@ -88,13 +88,13 @@ module _ (c : TConfiguration) (name : List ℕ) (t : TMessageType) (seq : ℤ) (
       record {
         place = found .place;
         gave = messages.older false (c .«max_string_size») s at (part-within (bytesOf 4 (length name)) 4 (length-bytesOf 4 (length name)) (size .left)) low refl
-        (messages.unversioned (c .«max_string_size») s at (found .gave) (message-type-reads t (sq .right))
-        (messages.sequence s (sp .mid) (found .place) t (sequence-reads seq g (sp .right))));
+            (messages.unversioned (c .«max_string_size») s at (found .gave) (message-type-reads t (sq .right))
+            (messages.sequence s (sp .mid) (found .place) t (sequence-reads seq g (sp .right))));
         bytes = found .bytes;
       }
 
 module _ (c : TConfiguration) (name : List ℕ) (t : TMessageType) (seq : ℤ) (f : TextFits c (length name)) (n : Name name) (g : SFits w32 seq)
-  (out : List ℕ) (at : ℕ) {new : List ℕ} {next : ℕ} where
+    (out : List ℕ) (at : ℕ) {new : List ℕ} {next : ℕ} where
   pub strict-message-back : (reader : Bool) → gives new next ≡ writeAt (namedOutput name (messageLayout true name t (ofZ w32 seq)) at) out at
       → Headed new name t seq (messageAt reader (c .«max_string_size») new at) next
   strict-message-back reader e = strict-reads c name t seq f n g reader (stands _ out at (with-name (messageLayout true name t (ofZ w32 seq)) at n) e)

@@ -1,9 +1,9 @@
 -- What is written reads back, over any bytes before and after: each kind by the definition of its read, at the place where it was written, to the
 -- place where the write ended. Not so, by 01: a Stop with an id, a negative size, a NaN's payload as a float. Assumes nothing.
-use Prim.Native.Nat.{ℕ, _+_, _-_, _%_, _^_, _<_, _≤_, zero-le}
-use mathlib.Core.Path.{_≡_, refl, sym, ap, subst, _∙_}
+use Prim.Native.Nat.{ℕ, _+_, _-_, _%_, _^_, _<_, _≤_}
+use mathlib.Core.Path.{_≡_, refl, sym, ap, _∙_}
 use mathlib.Core.Bool.{Bool, true, false, not}
-use mathlib.Core.List.{List, [], _∷_, _++_, append-assoc}
+use mathlib.Core.List.{List, [], _∷_, append-assoc}
 use native.Mathlib.Nat.{mod-eq-of-lt, add-sub-cancel-left}
 use native.Mathlib.Omega.{arith}
 use borrow.Author.Tests.{ltb-false}
@@ -11,16 +11,16 @@ use lib.Dec.{T, ltb, eqb}
 use lib.Ieee.{Float, binary64, fits, ofBits, toBits}
 use lib.Ieee.Bits.{ofBits-toBits, toBits-lt}
 use lib.IntN.{ℤ, pos}
-use lib.ListN.{length, take, drop, length-append, length-take}
+use lib.ListN.{length, take, length-take}
 use lib.Seq.{take-append-seam, drop-at}
 use mir.Syntax.{Width, w8, w16, w32, w64}
 use mir.Val.{SFits, bits, toZ, ofZ}
-use Rattle.wire.specs.Answer.{Answer, gives, refused, andThen, refuseIf}
-use Rattle.wire.specs.Codes.{typeByte, typeOf, isStop, asRead, leastSize, messageByte}
+use Rattle.wire.specs.Answer.{Answer, gives, andThen}
+use Rattle.wire.specs.Codes.{typeByte, isStop, asRead, leastSize}
 use Rattle.wire.specs.Writes.{laid, writeAt, putAt}
 use Rattle.wire.specs.declared.codes.TType.{TType}
 use Rattle.wire.specs.declared.codes.TType.the-variants as T
-use Rattle.wire.proofs.Answers.{passed, went}
+use Rattle.wire.proofs.Answers.{passed}
 use Rattle.wire.proofs.RoundTrips.{type-written, type-read}
 use Rattle.wire.proofs.Writes.{length-laid}
 use Rattle.number.specs.BigEndian.{big, bytesOf}

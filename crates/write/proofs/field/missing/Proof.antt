@@ -1,5 +1,4 @@
 -- Assumes nothing.
-use borrow.Author.Needs.{needs}
 use native.Mathlib.Omega.{arith}
 use Rattle.write.proofs.Outputs.{missing-beyond, missing-there}
 use Rattle.write.proofs.field.missing.Statement.{statement}
