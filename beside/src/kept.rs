@@ -112,70 +112,77 @@ impl Visitor for Keeper {
     fn skip(&mut self, _: &[u8], _: usize, _: usize, _: u8) {}
 }
 
-/// `r STEP STRICT KIND DEPTH STRUCT_DEPTH LIMITS PLACE BYTES > REFUSAL PLACE A B C D`
+/// `r REFUSAL PLACE A B C D STEP STRICT KIND DEPTH STRUCT_DEPTH MESSAGE FRAME STRUCTS CONTAINER STRING PLACE BYTES`
 ///
-/// Numbers are decimal, bytes hex. LIMITS is `d` for the defaults, else the five with commas. An absent limit, and an
-/// empty string of bytes, is `-`.
+/// All numbers and bytes are hex, an absent limit is the greatest number, no bytes are `-`.
 fn read_line(call: &ReadCall<'_>, answer: &Answer) -> String {
-    let [a, b, c, d] = answer.values;
-    format!(
-        "r {} {} {} {} {} {} {} {} > {} {} {a} {b} {c} {d}",
-        call.step as u8,
-        u8::from(call.strict),
-        call.kind as u8,
+    let Limits {
+        message,
+        frame,
+        structs,
+        container,
+        string,
+    } = call.limits;
+    let asked = [
+        call.step as usize,
+        usize::from(call.strict),
+        call.kind as usize,
         call.depth,
         call.struct_depth,
-        limits(&call.limits),
+        limit(message),
+        limit(frame),
+        limit(structs),
+        limit(container),
+        limit(string),
         call.place,
-        bytes_or_dash(call.bytes),
-        number(answer),
-        answer.place,
-    )
+    ];
+    let bytes = bytes_or_dash(call.bytes);
+    counted(format!("r {} {} {bytes}", told(answer), words(&asked)))
 }
 
-/// `w STEP STRICT KIND OTHER ABSENT NUMBER STRUCT_DEPTH STRUCTS PLACE LENGTH TEXT > REFUSAL PLACE A WRITTEN`
+/// `w REFUSAL PLACE A B C D STEP STRICT KIND OTHER ABSENT NUMBER STRUCT_DEPTH STRUCTS PLACE LENGTH 0 TEXT WRITTEN`
 ///
-/// LENGTH is the buffer's, WRITTEN what stands between the write's place and its end; every other byte stays.
+/// LENGTH is the buffer's, WRITTEN what stands between the write's place and its end; every other byte stays. The 0
+/// makes as many numbers as a read has.
 fn write_line(call: &WriteCall<'_>, length: usize, answer: &Answer, written: &[u8]) -> String {
-    format!(
-        "w {} {} {} {} {} {} {} {} {} {length} {} > {} {} {} {}",
-        call.step as u8,
-        u8::from(call.strict),
-        call.kind,
-        call.other,
-        call.absent.bits(),
-        call.number,
+    let asked = [
+        call.step as usize,
+        usize::from(call.strict),
+        usize::from(call.kind),
+        usize::from(call.other),
+        usize::from(call.absent.bits()),
+        call.number as usize,
         call.struct_depth,
         limit(call.structs),
         call.place,
-        bytes_or_dash(call.text),
-        number(answer),
-        answer.place,
-        answer.values[0],
-        bytes_or_dash(written),
-    )
+        length,
+        0,
+    ];
+    let (text, written) = (bytes_or_dash(call.text), bytes_or_dash(written));
+    counted(format!("w {} {} {text} {written}", told(answer), words(&asked)))
+}
+
+/// The line behind its own length in four digits, the line's end counted: so it can be read without a search.
+fn counted(line: String) -> String {
+    format!("{:04x} {line}", line.len() + 1)
+}
+
+fn told(answer: &Answer) -> String {
+    let [a, b, c, d] = answer.values.map(|value| value as usize);
+    words(&[usize::from(number(answer)), answer.place, a, b, c, d])
+}
+
+fn words(numbers: &[usize]) -> String {
+    let words: Vec<String> = numbers.iter().map(|n| format!("{n:x}")).collect();
+    words.join(" ")
 }
 
 fn number(answer: &Answer) -> u8 {
     answer.refusal.map_or(0, Refusal::number)
 }
 
-fn limit(limit: Option<usize>) -> String {
-    limit.map_or("-".into(), |limit| limit.to_string())
-}
-
-fn limits(limits: &Limits) -> String {
-    if *limits == Limits::DEFAULT {
-        return "d".into();
-    }
-    let five = [
-        limits.message,
-        limits.frame,
-        limits.structs,
-        limits.container,
-        limits.string,
-    ];
-    five.map(limit).join(",")
+fn limit(limit: Option<usize>) -> usize {
+    limit.unwrap_or(usize::MAX)
 }
 
 fn bytes_or_dash(bytes: &[u8]) -> String {

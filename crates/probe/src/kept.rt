@@ -1,0 +1,37 @@
+// The lent record: six numbers.
+use crate::rows::Row;
+ghost use mathlib.Core.Path.{_≡_};
+ghost use Prim.Native.Nat.{_≤_};
+ghost use lib.ListN.{length};
+ghost use Rattle.probe.specs.Kept.{filled, Left};
+
+// What a step comes to: a record to set, or that there is no such step or type.
+pub(crate) enum Stepped {
+    Set(Row),
+    Unknown,
+}
+
+fn fill(kept: &mut [u8], row: Row)
+    requires { ⌜ 48 ≤ length (now kept) ⌝ }
+    ensures { λ _. ⌜ now (kept .exit) ≡ filled row (now (kept .entry)) ⌝ }
+{
+    number::put::put64(kept, row.number);
+    number::put::put64(&mut kept[8..], row.place);
+    number::put::put64(&mut kept[16..], row.a);
+    number::put::put64(&mut kept[24..], row.b);
+    number::put::put64(&mut kept[32..], row.c);
+    number::put::put64(&mut kept[40..], row.d);
+}
+
+pub(crate) fn keep(kept: &mut [u8], stepped: Stepped) -> u32
+    requires { ⌜ 48 ≤ length (now kept) ⌝ }
+    ensures { λ r. ⌜ Left stepped (now (kept .entry)) r (now (kept .exit)) ⌝ }
+{
+    match stepped {
+        Stepped::Set(row) => {
+            fill(kept, row);
+            0
+        }
+        Stepped::Unknown => 1,
+    }
+}

@@ -1,0 +1,74 @@
+// Single reads and writes for C and Rust, each asked for by a number, with its answer in a lent record.
+mod asked;
+mod kept;
+mod reading;
+mod rows;
+mod writing;
+
+use crate::writing::Writing;
+ghost use Rattle.probe.specs.Asked.{readStepOf, writeStepOf};
+ghost use Rattle.probe.specs.Reads.{limitsOf, readingOf, Read};
+ghost use Rattle.probe.specs.Writes.{writingOf, doesOf, Written};
+
+// Returns 15 where the record has fewer than 48 bytes, 1 for a step or type that there is not, and else 0 with the
+// record's first 48 bytes set.
+#[no_mangle]
+pub extern "C" fn thrift_read(
+    bytes: &[u8],
+    place: usize,
+    step: u8,
+    strict: u8,
+    kind: u8,
+    depth: usize,
+    struct_depth: usize,
+    message: usize,
+    frame: usize,
+    structs: usize,
+    container: usize,
+    string: usize,
+    kept: &mut [u8],
+) -> u32
+    ensures { λ r. ⌜ Read (readStepOf step) (now (bytes .entry)) (readingOf place strict «kind» depth «struct_depth» (limitsOf message frame structs container string)) (now (kept .entry)) r (now (kept .exit)) ⌝ }
+{
+    if kept.len() < 48 {
+        return 15;
+    }
+    let limits = asked::limits(message, frame, structs, container, string);
+    let call = reading::asked_with(place, strict, kind, depth, struct_depth, limits);
+    kept::keep(kept, reading::by_step(bytes, asked::read_step(step), call))
+}
+
+// The same of a write, which also returns 1 for a message type that there is not and a UUID that has not 16 bytes.
+#[no_mangle]
+pub extern "C" fn thrift_write(
+    out: &mut [u8],
+    place: usize,
+    step: u8,
+    strict: u8,
+    kind: u8,
+    other: u8,
+    absent: u8,
+    number: u64,
+    text: &[u8],
+    struct_depth: usize,
+    structs: usize,
+    kept: &mut [u8],
+) -> u32
+    ensures { λ r. ⌜ Written (doesOf (writeStepOf step) (writingOf place strict «kind» other absent number «struct_depth» structs) (now (text .entry)) (now (out .entry))) (now (kept .entry)) r (now (kept .exit)) (now (out .entry)) (now (out .exit)) ⌝ }
+{
+    if kept.len() < 48 {
+        return 15;
+    }
+    let call = Writing {
+        place,
+        strict: strict != 0,
+        kind,
+        other,
+        absent,
+        number,
+        struct_depth,
+        structs: asked::limit(structs),
+    };
+    let stepped = writing::by_step(out, asked::write_step(step), call, text);
+    kept::keep(kept, stepped)
+}
