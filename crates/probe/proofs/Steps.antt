@@ -33,7 +33,7 @@ module _ (s : List ℕ) (c : Reading) where
       → SkipSays (c .limits) s (c .place) (c .depth) (c .«struct_depth») t r → w ≡ skippedRow r → SkipStep k s c (To.Set w)
   skip-step r {w} e says f =
       subst (λ (k : Typed). SkipStep k s c (To.Set w)) (sym e)
-      (record { outcome = toldSkipped r; answers = says .answers; set = ap To.Set (f ∙ handed _ r (says .hands)) })
+      (record { outcome = toldSkipped r; answers = says .answers; filled-by = ap To.Set (f ∙ handed _ r (says .hands)) })
 
   pub no-kind : {k : Typed} → k ≡ Type-of.Unknown → SkipStep k s c To.Unknown
   no-kind e = subst (λ (k : Typed). SkipStep k s c To.Unknown) (sym e) refl
@@ -49,9 +49,9 @@ module _ (s : List ℕ) (c : Reading) where
 -- one step comes to one thing
 skip-one : (k : Typed) (s : List ℕ) (c : Reading) (x y : Stepped) → SkipStep k s c x → SkipStep k s c y → x ≡ y
 skip-one (Type-of.Known t) s c x y p q =
-    p .set
+    p .filled-by
     ∙ ap (λ o. To.Set (skipRow (c .«struct_depth») o)) (skip-only (c .limits) s (c .place) (c .depth) (c .«struct_depth») t (p .outcome) (q .outcome) (p .answers) (q .answers))
-    ∙ sym (q .set)
+    ∙ sym (q .filled-by)
 skip-one Type-of.Unknown s c x y p q = p ∙ sym q
 
 one : (step : ReadStep) (s : List ℕ) (c : Reading) (x y : Stepped) → ReadSays step s c x → ReadSays step s c y → x ≡ y

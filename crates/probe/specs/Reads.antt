@@ -85,7 +85,7 @@ scalarStep Type-of.Unknown s at = To.Unknown
 pub record SkipSet (t : TType) (s : List ℕ) (c : Reading) (x : Stepped) : Type 0 where
   pub outcome : Outcome
   pub answers : SkipAnswers (c .limits) s (c .place) (c .depth) (c .«struct_depth») t outcome
-  pub set : x ≡ To.Set (skipRow (c .«struct_depth») outcome)
+  pub filled-by : x ≡ To.Set (skipRow (c .«struct_depth») outcome)
 
 abbrev pub SkipStep : Typed → List ℕ → Reading → Stepped → Type 0
 SkipStep (Type-of.Known t) s c x = SkipSet t s c x
