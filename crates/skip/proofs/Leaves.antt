@@ -1,5 +1,5 @@
 -- The answers that are no loop's. Assumes nothing.
-use Prim.Native.Nat.{ℕ, _<_}
+use Prim.Native.Nat.{ℕ, _<_, _≤_}
 use mathlib.Core.Path.{_≡_, refl, sym, ap, subst}
 use mathlib.Core.List.{List}
 use native.Mathlib.Omega.{arith}
@@ -11,7 +11,10 @@ use Rattle.wire.specs.declared.shape.Shape.{Shape}
 use Rattle.wire.specs.declared.shape.Shape.the-variants as Sh
 use Rattle.config.specs.declared.configuration.TConfiguration.{TConfiguration}
 use Rattle.number.proofs.Widths.{Octets}
-use Rattle.text.specs.Texts.{bytesAt}
+use lib.IntN.{ℤ, natAbs}
+use Rattle.config.specs.declared.limit.Limit.{Limit}
+use Rattle.text.specs.Texts.{limitedAt, bytesAt}
+use Rattle.text.proofs.Texts as texts
 use Rattle.text.specs.declared.Span.{Span}
 use Rattle.tree.specs.Answers.{Outcome, cut-off, judged, Answers}
 use Rattle.tree.proofs.Heads.{clash}
@@ -47,20 +50,32 @@ module _ (c : TConfiguration) (s : List ℕ) (at d sd : ℕ) where
       go (gives p q) f = steps.text-stands c s at d sd h o (sym f)
       go (refused n p) f = steps.own-refused c s at d sd Sh.Text n p h (ap judged (sym f))
 
--- a shape of fixed bytes has some
-pub fixed-some : (t : TType) (w : ℕ) → shapeOf t ≡ Sh.Fixed w → 0 < w
-fixed-some T.Stop w h = clash (cc)
-fixed-some T.Void w h = clash (cc)
-fixed-some T.Bool w h = let e : 1 ≡ w = cc in omega arith
-fixed-some T.I08 w h = let e : 1 ≡ w = cc in omega arith
-fixed-some T.Double w h = let e : 8 ≡ w = cc in omega arith
-fixed-some T.I16 w h = let e : 2 ≡ w = cc in omega arith
-fixed-some T.I32 w h = let e : 4 ≡ w = cc in omega arith
-fixed-some T.I64 w h = let e : 8 ≡ w = cc in omega arith
-fixed-some T.String w h = clash (cc)
-fixed-some T.Utf7 w h = clash (cc)
-fixed-some T.Struct w h = clash (cc)
-fixed-some T.Map w h = clash (cc)
-fixed-some T.Set w h = clash (cc)
-fixed-some T.List w h = clash (cc)
-fixed-some T.Uuid w h = let e : 16 ≡ w = cc in omega arith
+-- after its size, a text is so many bytes
+pub text-onward : (limit : Limit) (s : List ℕ) (at : ℕ) {v : ℤ} {body : ℕ} → gives v body ≡ limitedAt 7 limit s at → within s body (natAbs v) ≡ judged (bytesAt limit s at)
+text-onward limit s at {v} {body} e = go (within s body (natAbs v)) refl
+  where
+    go : (m : Answer Unit) → within s body (natAbs v) ≡ m → m ≡ judged (bytesAt limit s at)
+    go (gives u q) f = ap judged (texts.whole 7 limit s at e (sym f))
+    go (refused n p) f = ap judged (texts.cut 7 limit s at e (sym f))
+
+-- a shape of fixed bytes has some, and few
+pub record Width (w : ℕ) : Type 0 where
+  pub some : 0 < w
+  pub few : w ≤ 32
+
+pub fixed-width : (t : TType) (w : ℕ) → shapeOf t ≡ Sh.Fixed w → Width w
+fixed-width T.Stop w h = clash (cc)
+fixed-width T.Void w h = clash (cc)
+fixed-width T.Bool w h = let e : 1 ≡ w = cc in record { some = omega arith; few = omega arith }
+fixed-width T.I08 w h = let e : 1 ≡ w = cc in record { some = omega arith; few = omega arith }
+fixed-width T.Double w h = let e : 8 ≡ w = cc in record { some = omega arith; few = omega arith }
+fixed-width T.I16 w h = let e : 2 ≡ w = cc in record { some = omega arith; few = omega arith }
+fixed-width T.I32 w h = let e : 4 ≡ w = cc in record { some = omega arith; few = omega arith }
+fixed-width T.I64 w h = let e : 8 ≡ w = cc in record { some = omega arith; few = omega arith }
+fixed-width T.String w h = clash (cc)
+fixed-width T.Utf7 w h = clash (cc)
+fixed-width T.Struct w h = clash (cc)
+fixed-width T.Map w h = clash (cc)
+fixed-width T.Set w h = clash (cc)
+fixed-width T.List w h = clash (cc)
+fixed-width T.Uuid w h = let e : 16 ≡ w = cc in record { some = omega arith; few = omega arith }

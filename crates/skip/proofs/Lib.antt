@@ -3,4 +3,5 @@ pub mod Entry
 pub mod Exactly
 pub mod Leaves
 pub mod MoreRoom
+pub mod Runs
 pub mod Sizes

@@ -1,11 +1,11 @@
 // One value, whatever its type. A value's skip calls that of a struct, a list or a map, and they call back for each child with the depth
 // less one, so the depth bounds the calls.
 use config::configuration::TConfiguration;
+use number::I32Read;
 use read::container::ListRead;
 use read::container::MapRead;
 use read::field::FieldRead;
 use read::structs::DepthRead;
-use text::TextRead;
 use wire::codes::TType;
 use wire::cursor::Cursor;
 use wire::cursor::Moved;
@@ -20,6 +20,7 @@ ghost use Rattle.wire.specs.Shapes.{shapeOf};
 ghost use Rattle.text.specs.Texts.{bytesAt};
 ghost use Rattle.tree.specs.Answers.{judged, Answers, cut-off};
 ghost use Rattle.skip.specs.Told.{toldWalked, leafOutcome};
+ghost use Rattle.skip.specs.Runs.{InRun};
 
 // The cursor past a value and the values in it, or the refusal and the values begun.
 pub enum Walked {
@@ -42,13 +43,49 @@ fn skip_fixed(bytes: &[u8], cursor: Cursor, width: usize) -> Walked
     }
 }
 
-// No check of UTF-8.
+// A size, then as many bytes; no check of UTF-8.
 fn skip_text(bytes: &[u8], cursor: Cursor, config: TConfiguration) -> Walked
     ensures { λ r. ⌜ toldWalked r ≡ leafOutcome (judged (bytesAt (config .«max_string_size») (now (bytes .entry)) (cursor .at))) ⌝ }
 {
-    match text::read_bytes(bytes, cursor, config) {
-        TextRead::Value(_, next) => Walked::Passed(next, 1),
-        TextRead::Refused(refusal) => Walked::Refused(refusal, 1),
+    let limit = config.max_string_size;
+    match text::read_limited(bytes, cursor, limit, Kind::StringLimit) {
+        I32Read::Value(size, body) => {
+            skip_fixed(bytes, body, number::sign::bits32(size) as usize)
+        }
+        I32Read::Refused(refusal) => Walked::Refused(refusal, 1),
+    }
+}
+
+// Elements that were passed together: how many, and the place after them.
+struct Run {
+    elements: usize,
+    end: usize,
+}
+
+// Elements of a fixed width that all lie within, with depth left for each, are passed together; none of others.
+fn skip_run(bytes: &[u8], first: usize, element_type: TType, size: u32, depth: usize) -> Run
+    ensures { λ r. ⌜ InRun (now (bytes .entry)) first (shapeOf «element_type») size depth (r .elements) (r .end) ⌝ }
+{
+    let none = Run {
+        elements: 0,
+        end: first,
+    };
+    if depth < 1 {
+        return none;
+    }
+    match wire::shape::shape_of(element_type) {
+        Shape::Fixed(width) => {
+            let elements = size as usize;
+            let cursor = Cursor { at: first };
+            match cursor.past(bytes, elements * width) {
+                Moved::To(next) => {
+                    let end = next.at;
+                    Run { elements, end }
+                }
+                Moved::Refused(_) => none,
+            }
+        }
+        _ => none,
     }
 }
 
@@ -132,10 +169,13 @@ fn skip_list(
         ListRead::Value(list, first) => {
             let element_type = list.element_type;
             let size = list.size;
-            let len = number::sign::bits32(size) as usize;
-            let mut at = first.at;
-            let mut count: usize = 1;
-            let mut i: usize = 0;
+            let bits = number::sign::bits32(size);
+            let len = bits as usize;
+            let begin = first.at;
+            let run = skip_run(bytes, begin, element_type, bits, depth - 1);
+            let mut at = run.end;
+            let mut count = run.elements + 1;
+            let mut i = run.elements;
             while i < len {
                 match skip_value(
                     bytes,

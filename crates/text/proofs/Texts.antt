@@ -18,7 +18,7 @@ use Rattle.config.specs.declared.limit.Limit.{Limit}
 use Rattle.wire.proofs.Within.{inside}
 use Rattle.utf8.specs.UpTo.{upTo}
 use Rattle.text.specs.declared.Span.{Span}
-use Rattle.text.specs.Texts.{span, bytesIn, sizeAt, sizedAt, bytesAt, stringAt, uuidAt, partIn, partOf}
+use Rattle.text.specs.Texts.{span, bytesIn, sizeAt, limitedAt, sizedAt, bytesAt, stringAt, uuidAt, partIn, partOf}
 
 plain : (v : ℤ) → ltZ v (pos 0) ≡ false → ofZ w32 v ≡ natAbs v
 plain (pos n) h = refl
@@ -48,23 +48,44 @@ module _ (s : List ℕ) (at : ℕ) where
       plain v (rw same (b .test))
 
 module _ (over : ℕ) (limit : Limit) (s : List ℕ) (at : ℕ) where
-  pub unsized : {n p : ℕ} → refused n p ≡ sizeAt s at → refused n p ≡ sizedAt over limit s at
+  pub unlimited : {n p : ℕ} → refused n p ≡ sizeAt s at → refused n p ≡ limitedAt over limit s at
+  unfolding limitedAt
+  unlimited e = first-fault _ e
+
+  module _ {v : ℤ} {next : ℕ} (e : gives v next ≡ sizeAt s at) where
+    pub too-long : above (natAbs v) limit ≡ true → refused over at ≡ limitedAt over limit s at
+    unfolding limitedAt andThen refuseIf
+    too-long h = rw (← e, h)
+
+    pub limited : above (natAbs v) limit ≡ false → gives v next ≡ limitedAt over limit s at
+    unfolding limitedAt andThen refuseIf
+    limited h = rw (← e, h)
+
+  -- a size that was read and is within its limit
+  pub record Limited (v : ℤ) (next : ℕ) : Type 0 where
+    pub size : gives v next ≡ sizeAt s at
+    pub test : above (natAbs v) limit ≡ false
+
+  pub limited-is : {v : ℤ} {next : ℕ} → gives v next ≡ limitedAt over limit s at → Limited v next
+  unfolding limitedAt
+  limited-is {v} {next} e =
+      let a = went (sizeAt s at) _ e in
+      let b = passed (above (natAbs (a .value)) limit) over at (gives (a .value) (a .place)) (a .on) in
+      let same : a .value ≡ v = cc (b .gave) in
+      record { size = b .gave ∙ a .gave; test = rw same at (b .test) }
+
+  pub unsized : {n p : ℕ} → refused n p ≡ limitedAt over limit s at → refused n p ≡ sizedAt over limit s at
   unfolding sizedAt
   unsized e = first-fault _ e
 
-  module _ {v : ℤ} {body : ℕ} (e : gives v body ≡ sizeAt s at) where
-    pub too-long : above (natAbs v) limit ≡ true → refused over at ≡ sizedAt over limit s at
-    unfolding sizedAt andThen refuseIf
-    too-long h = rw (← e, h)
+  module _ {v : ℤ} {body : ℕ} (e : gives v body ≡ limitedAt over limit s at) where
+    pub cut : {n p : ℕ} → refused n p ≡ within s body (natAbs v) → refused n p ≡ sizedAt over limit s at
+    unfolding sizedAt andThen
+    cut f = rw (← e, ← f)
 
-    module _ (h : above (natAbs v) limit ≡ false) where
-      pub cut : {n p : ℕ} → refused n p ≡ within s body (natAbs v) → refused n p ≡ sizedAt over limit s at
-      unfolding sizedAt andThen refuseIf
-      cut f = rw (← e, h, ← f)
-
-      pub whole : {end : ℕ} → gives tt end ≡ within s body (natAbs v) → gives (span body end) end ≡ sizedAt over limit s at
-      unfolding sizedAt andThen refuseIf
-      whole f = rw (← e, h, ← f)
+    pub whole : {end : ℕ} → gives tt end ≡ within s body (natAbs v) → gives (span body end) end ≡ sizedAt over limit s at
+    unfolding sizedAt andThen
+    whole f = rw (← e, ← f)
 
 -- a span inside so many bytes
 pub record Lies (n : ℕ) (p : Span) : Type 0 where
@@ -78,9 +99,8 @@ lies s at w e = let i = inside s at w e in record { ordered = omega arith; insid
 pub sized-lies : (over : ℕ) (limit : Limit) (s : List ℕ) (at : ℕ) {p : Span} {q : ℕ} → gives p q ≡ sizedAt over limit s at → Lies (length s) p
 unfolding sizedAt
 sized-lies over limit s at {p} {q} e =
-    let a = went (sizeAt s at) _ e in
-    let b = passed (above (natAbs (a .value)) limit) over at _ (a .on) in
-    let c = went (within s (a .place) (natAbs (a .value))) _ (b .gave) in
+    let a = went (limitedAt over limit s at) _ e in
+    let c = went (within s (a .place) (natAbs (a .value))) _ (a .on) in
     let same : p ≡ span (a .place) (c .place) = cc (c .on) in
     rw same (lies s (a .place) (natAbs (a .value)) (c .gave))
 

@@ -27,13 +27,18 @@ sizeAt s at =
     andThen (i32At s at) λ size next.
     refuseIf (ltZ size (pos 0)) 6 at (gives size next)
 
--- A size, then as many bytes: above the limit it is refused by the number given, at the size. What is given is where the bytes stand
+-- a size within its limit: above, it is refused by the number given
+unfoldable pub limitedAt : ℕ → Limit → List ℕ → ℕ → Answer ℤ
+limitedAt over limit s at =
+    andThen (sizeAt s at) λ size next.
+    refuseIf (above (natAbs size) limit) over at (gives size next)
+
+-- such a size, then as many bytes; what is given is where they stand
 unfoldable pub sizedAt : ℕ → Limit → List ℕ → ℕ → Answer Span
 sizedAt over limit s at =
-    andThen (sizeAt s at) λ size body.
-    refuseIf (above (natAbs size) limit) over at
-    (andThen (within s body (natAbs size)) λ _ end.
-    gives (span body end) end)
+    andThen (limitedAt over limit s at) λ size body.
+    andThen (within s body (natAbs size)) λ _ end.
+    gives (span body end) end
 
 -- the bytes that stand in a span
 abbrev pub bytesIn : List ℕ → Span → List ℕ

@@ -11,7 +11,7 @@ use wire::refusal::Refusal;
 ghost use mathlib.Core.Path.{_≡_};
 ghost use Rattle.wire.specs.Refusals.{kindNumber};
 ghost use Rattle.number.specs.Told.{toldI32};
-ghost use Rattle.text.specs.Texts.{sizeAt, sizedAt, bytesAt, stringAt, uuidAt, partIn, partOf};
+ghost use Rattle.text.specs.Texts.{sizeAt, limitedAt, sizedAt, bytesAt, stringAt, uuidAt, partIn, partOf};
 ghost use Rattle.text.specs.Told.{toldText};
 
 // From its first byte up to the one after its last.
@@ -44,22 +44,33 @@ pub fn read_size(bytes: &[u8], cursor: Cursor) -> I32Read
     }
 }
 
-// A size, then as many bytes; a size above the limit is refused as the kind given.
-pub fn read_sized(bytes: &[u8], cursor: Cursor, limit: Limit, over: Kind) -> TextRead
-    ensures { λ r. ⌜ toldText r ≡ sizedAt (kindNumber over) limit (now (bytes .entry)) (cursor .at) ⌝ }
+// A size within its limit; above, it is refused as the kind given.
+pub fn read_limited(bytes: &[u8], cursor: Cursor, limit: Limit, over: Kind) -> I32Read
+    ensures { λ r. ⌜ toldI32 r ≡ limitedAt (kindNumber over) limit (now (bytes .entry)) (cursor .at) ⌝ }
 {
     let at = cursor.at;
     match read_size(bytes, cursor) {
-        I32Read::Value(size, body) => {
-            let len = number::sign::bits32(size) as usize;
-            if limit.exceeded_by(len) {
-                return TextRead::Refused(Refusal {
+        I32Read::Value(size, next) => {
+            if limit.exceeded_by(number::sign::bits32(size) as usize) {
+                return I32Read::Refused(Refusal {
                     kind: over,
                     place: at,
                 });
             }
+            I32Read::Value(size, next)
+        }
+        I32Read::Refused(refusal) => I32Read::Refused(refusal),
+    }
+}
+
+// Such a size, then as many bytes.
+pub fn read_sized(bytes: &[u8], cursor: Cursor, limit: Limit, over: Kind) -> TextRead
+    ensures { λ r. ⌜ toldText r ≡ sizedAt (kindNumber over) limit (now (bytes .entry)) (cursor .at) ⌝ }
+{
+    match read_limited(bytes, cursor, limit, over) {
+        I32Read::Value(size, body) => {
             let start = body.at;
-            match body.past(bytes, len) {
+            match body.past(bytes, number::sign::bits32(size) as usize) {
                 Moved::To(next) => {
                     let end = next.at;
                     TextRead::Value(Span { start, end }, next)

@@ -27,7 +27,8 @@ use Rattle.number.specs.Reads.{numberAt, byteAt, i16At, i32At}
 use Rattle.number.proofs.Widths.{Octets, read-written}
 use Rattle.config.specs.Limits.{above, reached}
 use Rattle.config.specs.declared.configuration.TConfiguration.{TConfiguration}
-use Rattle.text.specs.Texts.{sizeAt, sizedAt, bytesAt}
+use Rattle.text.specs.Texts.{sizeAt, sizedAt, bytesAt, limitedAt}
+use Rattle.text.proofs.Texts.{limited-is}
 use Rattle.text.specs.declared.Span.{Span}
 use Rattle.wire.specs.declared.codes.TType.the-variants as T
 use Rattle.read.specs.declared.container.TListIdentifier.{TListIdentifier}
@@ -141,12 +142,12 @@ pub record TextIs (c : TConfiguration) (s : List ℕ) (at e : ℕ) : Type 0 wher
 pub text-is : (c : TConfiguration) (s : List ℕ) (at : ℕ) → Octets s → {p : Span} {e : ℕ} → gives p e ≡ bytesAt (c .«max_string_size») s at → TextIs c s at e
 unfolding sizedAt
 text-is c s at o {p} {e} h =
-    let a = went (sizeAt s at) _ h in
+    let a = went (limitedAt 7 (c .«max_string_size») s at) _ h in
     let n = natAbs (a .value) in
-    let b = passed (above n (c .«max_string_size»)) 7 at _ (a .on) in
-    let w = went (within s (a .place) n) _ (b .gave) in
+    let b = limited-is 7 (c .«max_string_size») s at (a .gave) in
+    let w = went (within s (a .place) n) _ (a .on) in
     let i = inside s (a .place) n (w .gave) in
-    let z = size-is s at o (a .gave) in
+    let z = size-is s at o (b .size) in
     let last : w .place ≡ e = cc (w .on) in
     let body = take n (drop (a .place) s) in
     let long : length body ≡ n = length-take-le n (drop (a .place) s) (rw (length-drop (a .place) s) (omega arith)) in

@@ -20,7 +20,8 @@ use Rattle.wire.proofs.Answers.{passed, went}
 use Rattle.number.specs.Reads.{numberAt, byteAt, i16At, i32At}
 use Rattle.config.specs.declared.limit.Limit.{Limit}
 use Rattle.config.specs.declared.configuration.TConfiguration.{TConfiguration}
-use Rattle.text.specs.Texts.{sizeAt, sizedAt}
+use Rattle.text.specs.Texts.{sizeAt, sizedAt, limitedAt}
+use Rattle.text.proofs.Texts.{limited-is}
 use Rattle.read.specs.Headers.{known, typeAt, field, stopOr, fieldAt, countAt, listAt, mapAt, structBeginAt}
 use Rattle.tree.specs.Answers.{judged, shapeOwn, ownAt}
 use Rattle.tree.proofs.Heads.{clash, number-is, type-is}
@@ -95,10 +96,12 @@ module _ (s : List ℕ) where
       omega (arith, i .end)
 
   sized-later : (k : ℕ) (l : Limit) (at : ℕ) → Later at (sizedAt k l s at)
-  unfolding sizedAt
+  unfolding sizedAt limitedAt
   sized-later k l at =
-      then-later at (sizeAt s at) _ (size-later at) (λ v q e.
-      if-later _ k at _ (behind (size-onward at v q e) (then-later q (within s q (natAbs v)) _ (within-later q (natAbs v)) (λ u r f. gives-later _ r q))))
+      then-later at (limitedAt k l s at) _
+      (then-later at (sizeAt s at) _ (size-later at) (λ v q e. if-later _ k at _ (gives-later v q at)))
+      (λ v q e.
+      behind (size-onward at v q (limited-is k l s at e .size)) (then-later q (within s q (natAbs v)) _ (within-later q (natAbs v)) (λ u r f. gives-later _ r q)))
 
   module _ (c : TConfiguration) where
     count-later : (least at : ℕ) → Later at (countAt c least s at)

@@ -67,9 +67,9 @@ sized-reads {s} {at} {e} over limit b f g p =
     let sp = part-split (bytesOf 4 (length b)) b p in
     let l = part-length (sp .left) in
     let mid : sp .mid ≡ at + 4 = omega (arith, length-bytesOf 4 (length b), l) in
-    let size = size-reads (length b) f (sp .left) in
+    let size = texts.limited over limit s at (size-reads (length b) f (sp .left)) g in
     ap (λ (k : ℕ). gives (span k e) e) (sym mid)
-    ∙ texts.whole over limit s at size g (part-within b (length b) refl (sp .right))
+    ∙ texts.whole over limit s at size (part-within b (length b) refl (sp .right))
 
 pub text-reads : {s : List ℕ} {at e : ℕ} (c : TConfiguration) (b : List ℕ) → TextFits c (length b) → Part s at e (sizedLayout b)
     → gives (span (at + 4) e) e ≡ bytesAt (c .«max_string_size») s at

@@ -47,34 +47,6 @@ pub enum Messaged {
     Unknown,
 }
 
-const TYPES: [Typed; 17] = [
-    Typed::Known(TType::Stop),
-    Typed::Known(TType::Void),
-    Typed::Known(TType::Bool),
-    Typed::Known(TType::I08),
-    Typed::Known(TType::Double),
-    Typed::Unknown,
-    Typed::Known(TType::I16),
-    Typed::Unknown,
-    Typed::Known(TType::I32),
-    Typed::Unknown,
-    Typed::Known(TType::I64),
-    Typed::Known(TType::String),
-    Typed::Known(TType::Struct),
-    Typed::Known(TType::Map),
-    Typed::Known(TType::Set),
-    Typed::Known(TType::List),
-    Typed::Known(TType::Uuid),
-];
-
-const MESSAGES: [Messaged; 5] = [
-    Messaged::Unknown,
-    Messaged::Known(TMessageType::Call),
-    Messaged::Known(TMessageType::Reply),
-    Messaged::Known(TMessageType::Exception),
-    Messaged::Known(TMessageType::OneWay),
-];
-
 pub fn message_type_to_u8(message_type: TMessageType) -> u8
     ensures { λ r. ⌜ r ≡ messageByte «message_type» ⌝ }
 {
@@ -89,11 +61,12 @@ pub fn message_type_to_u8(message_type: TMessageType) -> u8
 pub fn message_type_from_u8(b: u8) -> Messaged
     ensures { λ r. ⌜ r ≡ messageOf b ⌝ }
 {
-    let i = b as usize;
-    if i < 5 {
-        MESSAGES[i]
-    } else {
-        Messaged::Unknown
+    match b {
+        0x01 => Messaged::Known(TMessageType::Call),
+        0x02 => Messaged::Known(TMessageType::Reply),
+        0x03 => Messaged::Known(TMessageType::Exception),
+        0x04 => Messaged::Known(TMessageType::OneWay),
+        _ => Messaged::Unknown,
     }
 }
 
@@ -122,8 +95,23 @@ pub fn field_type_to_u8(field_type: TType) -> u8
 pub fn field_type_from_u8(b: u8) -> Typed
     ensures { λ r. ⌜ r ≡ typeOf b ⌝ }
 {
-    let i = b as usize;
-    if i < 17 { TYPES[i] } else { Typed::Unknown }
+    match b {
+        0x00 => Typed::Known(TType::Stop),
+        0x01 => Typed::Known(TType::Void),
+        0x02 => Typed::Known(TType::Bool),
+        0x03 => Typed::Known(TType::I08),
+        0x04 => Typed::Known(TType::Double),
+        0x06 => Typed::Known(TType::I16),
+        0x08 => Typed::Known(TType::I32),
+        0x0A => Typed::Known(TType::I64),
+        0x0B => Typed::Known(TType::String),
+        0x0C => Typed::Known(TType::Struct),
+        0x0D => Typed::Known(TType::Map),
+        0x0E => Typed::Known(TType::Set),
+        0x0F => Typed::Known(TType::List),
+        0x10 => Typed::Known(TType::Uuid),
+        _ => Typed::Unknown,
+    }
 }
 
 // The fewest bytes that a value of the type takes in the binary encoding, as the crate counts them.

@@ -5,9 +5,9 @@ use lib.IntN.{natAbs}
 use mir.Syntax.{w32}
 use mir.Val.{toZ, ofZ}
 use Rattle.number.specs.Told.{toldI32}
-use Rattle.wire.specs.Refusals.{toldMoved}
 use Rattle.wire.proofs.Answers.{told-as}
-use Rattle.text.proofs.Texts.{size-bits, unsized, too-long, cut, whole}
+use Rattle.wire.specs.Refusals.{toldMoved}
+use Rattle.text.proofs.Texts.{size-bits, limited-is, unsized, cut, whole}
 use Rattle.text.proofs.read_sized.Statement.{statement}
 use Rattle.text.proofs.read_sized.Tie as tie
 
@@ -18,7 +18,7 @@ same c = search needs
 len : (c : tie.After-bits32) → c .bits32 .result ≡ natAbs (c .before .before .size .given .0 .0)
 len c =
     let n = c .before .before in
-    c .bits32 .ensures ∙ ap (ofZ w32) (same (c .before)) ∙ size-bits _ _ (told-as toldI32 (n .size .given .1) (n .before .before .read-size .ensures))
+    c .bits32 .ensures ∙ ap (ofZ w32) (same (c .before)) ∙ size-bits _ _ (limited-is _ _ _ _ (told-as toldI32 (n .size .given .1) (n .before .before .read-limited .ensures)) .size)
 
 pub read-sized-spec : {M : Type 1} → statement M
 read-sized-spec =
@@ -29,11 +29,9 @@ read-sized-spec =
     (λ c κs. search needs)
     (λ c. search needs)
     (λ c κs. search needs)
-    (λ c. too-long _ _ _ _ (told-as toldI32 (c .before .before .before .before .size .given .1) (c .before .before .before .before .before .before .read-size .ensures)) (rw (len (c .before .before)) at (sym (c .before .exceeded-by .ensures) ∙ c .if1 .taken)))
-    (λ c κs. search needs)
     (λ c. search needs)
     (λ c. search needs)
     (λ c. search needs)
-    (λ c. let l = len (c .before .before .before .before .before .before) in whole _ _ _ _ (told-as toldI32 (c .before .before .before .before .before .before .before .before .size .given .1) (c .before .before .before .before .before .before .before .before .before .before .read-size .ensures)) (rw l at (sym (c .before .before .before .before .before .exceeded-by .ensures) ∙ c .before .before .before .before .if1 .left)) (told-as toldMoved (c .before .next .given .1) (rw l at (c .before .before .before .past .ensures))))
-    (λ c. let l = len (c .before .before .before .before .before .before) in cut _ _ _ _ (told-as toldI32 (c .before .before .before .before .before .before .before .before .size .given .1) (c .before .before .before .before .before .before .before .before .before .before .read-size .ensures)) (rw l at (sym (c .before .before .before .before .before .exceeded-by .ensures) ∙ c .before .before .before .before .if1 .left)) (told-as toldMoved (c .before .refusal .given .1) (rw l at (c .before .before .before .past .ensures))))
-    (λ c. unsized _ _ _ _ (told-as toldI32 (c .before .refusal2 .given .1) (c .before .before .before .read-size .ensures))))
+    (λ c. whole _ _ _ _ (told-as toldI32 (c .before .before .before .before .before .before .size .given .1) (c .before .before .before .before .before .before .before .before .read-limited .ensures)) (told-as toldMoved (c .before .next .given .1) (rw (len (c .before .before .before .before)) at (c .before .before .before .past .ensures))))
+    (λ c. cut _ _ _ _ (told-as toldI32 (c .before .before .before .before .before .before .size .given .1) (c .before .before .before .before .before .before .before .before .read-limited .ensures)) (told-as toldMoved (c .before .refusal .given .1) (rw (len (c .before .before .before .before)) at (c .before .before .before .past .ensures))))
+    (λ c. unsized _ _ _ _ (told-as toldI32 (c .before .refusal2 .given .1) (c .before .before .before .read-limited .ensures))))

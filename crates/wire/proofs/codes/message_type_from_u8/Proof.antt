@@ -1,18 +1,27 @@
 -- Assumes nothing.
-use borrow.Author.Needs.{needs}
-use mathlib.Core.Path.{sym}
-use lib.ListN.{List·getD-eq-default}
-use Rattle.wire.specs.Codes.{messages}
-use Rattle.wire.specs.declared.codes.Messaged.the-variants.{Unknown}
-use Rattle.wire.proofs.Tables.{getD-within}
+use mathlib.Core.Path.{_≡_, refl, sym, ap}
+use mathlib.Core.Bool.{Bool, true, false, true≢false}
+use Rattle.wire.specs.Codes.{messageOf, messages}
+use Rattle.wire.specs.declared.codes.Messaged.{Messaged}
+use Rattle.wire.specs.declared.codes.Messaged.the-variants.{Known, Unknown}
+use Rattle.wire.proofs.Tables.{missed}
 use Rattle.wire.proofs.codes.message_type_from_u8.Statement.{statement}
 use Rattle.wire.proofs.codes.message_type_from_u8.Tie as tie
+
+abbrev stands : Messaged → Bool
+stands (Known t) = true
+stands Unknown = false
+
+plain : (a : Messaged) → stands a ≡ false → Unknown ≡ a
+plain (Known t) e = absurd (true≢false e)
+plain Unknown e = refl
 
 pub message-type-from-u8-spec : {M : Type 1} → statement M
 message-type-from-u8-spec =
     tie.close
     (tie.spec
-    (λ c. search needs)
-    (λ c. search needs)
-    (λ c. getD-within messages _ _ Unknown (c .before .if1 .taken))
-    (λ c. sym (List·getD-eq-default messages Unknown (c .if1 .left))))
+    (λ c. sym (ap messageOf (c .match .keys1)))
+    (λ c. sym (ap messageOf (c .match .keys2)))
+    (λ c. sym (ap messageOf (c .match .keys3)))
+    (λ c. sym (ap messageOf (c .match .keys4)))
+    (λ c. missed stands Unknown plain messages _ (c .match .rest)))
