@@ -1,58 +1,116 @@
 //! Reads an order that a newer sender has added fields to.
 //!
-//! Field 1 is the account (a text), field 2 the quantity (an i64). Everything else is stepped over, and never past: a
-//! field that can't be passed ends the reading with a refusal, and no later byte is taken for a quantity.
+//! An order is a message called "order" whose field 1 is the account (a text) and field 2 the quantity (an i64). Every
+//! other field is stepped over, and never past: where a field can't be passed the reading ends with a refusal, and no
+//! later byte is taken for a quantity.
 
-use turmyshge::skip;
+use std::error::Error;
 
-const STOP: u8 = 0x00;
-const I64: u8 = 0x0a;
-const STRING: u8 = 0x0b;
-const DEPTH: usize = 64;
+use turmyshge::steps::{read_field_begin, read_i64, read_message_begin, read_string};
+use turmyshge::steps::{Limits, TType};
+use turmyshge::{skip, DEFAULT_SKIP_DEPTH};
 
-#[derive(Debug, Default)]
-struct Order {
-    account: String,
+#[derive(Debug, PartialEq)]
+struct Order<'a> {
+    account: &'a str,
     quantity: i64,
 }
 
-/// Reads the order that starts at the beginning of `bytes`, and answers it with the place after it.
-fn read_order(bytes: &[u8]) -> Result<(Order, usize), Box<dyn std::error::Error>> {
-    let mut order = Order::default();
-    let mut at = 0;
-    loop {
-        let type_byte = *bytes.get(at).ok_or("no Stop")?;
-        if type_byte == STOP {
-            return Ok((order, at + 1));
-        }
-        let id = bytes.get(at + 1..at + 3).ok_or("no field id")?;
-        let start = at + 3;
-        // The skip says where the value ends before any of it is used.
-        let end = skip(bytes, start, DEPTH, type_byte)?.end;
-        match (id, type_byte) {
-            ([0, 1], STRING) => order.account = std::str::from_utf8(&bytes[start + 4..end])?.into(),
-            ([0, 2], I64) => order.quantity = i64::from_be_bytes(bytes[start..end].try_into()?),
-            _ => println!("stepped over {} bytes of an unknown field", end - start),
-        }
-        at = end;
+/// The order that `bytes` are, whole and with nothing after it.
+fn read_order(bytes: &[u8]) -> Result<Order<'_>, Box<dyn Error>> {
+    let (message, mut at) = read_message_begin(bytes, 0, true, Limits::DEFAULT)?;
+    if message.name != "order" {
+        return Err("not an order".into());
     }
+    // No default: an order that doesn't say how much is not one for 0.
+    let (mut account, mut quantity) = (None, None);
+    let end = loop {
+        let ((kind, id), value) = read_field_begin(bytes, at)?;
+        at = match (id, kind) {
+            (_, TType::Stop) => break value,
+            (1, TType::String) => {
+                let (text, end) = read_string(bytes, value, Limits::DEFAULT)?;
+                account = Some(text);
+                end
+            }
+            (2, TType::I64) => {
+                let (lots, end) = read_i64(bytes, value)?;
+                quantity = Some(lots);
+                end
+            }
+            // Unknown, or known and of another type: the skip says where the next field begins, or that none does.
+            _ => skip(bytes, value, DEFAULT_SKIP_DEPTH, kind.byte())?.end,
+        };
+    };
+    if end < bytes.len() {
+        return Err("bytes after the order".into());
+    }
+    Ok(Order {
+        account: account.ok_or("no account")?,
+        quantity: quantity.ok_or("no quantity")?,
+    })
 }
 
-fn main() -> Result<(), Box<dyn std::error::Error>> {
-    let mut bytes = vec![STRING, 0, 1, 0, 0, 0, 2, b'A', b'7'];
-    // unknown field 9: a map of one text to a list of two bytes
-    bytes.extend([
-        0x0d, 0, 9, STRING, 0x0f, 0, 0, 0, 1, 0, 0, 0, 1, b'k', 3, 0, 0, 0, 2, 1, 2,
-    ]);
-    bytes.extend([I64, 0, 2, 0, 0, 0, 0, 0, 0, 0, 25, STOP]);
-    let (order, end) = read_order(&bytes)?;
-    println!("{order:?}, {end} of {} bytes", bytes.len());
+/// A message header, account "A7", unknown field 9, quantity 25, Stop.
+#[rustfmt::skip]
+const ORDER: [u8; 59] = [
+    0x80, 1, 0, 4, 0, 0, 0, 5, b'o', b'r', b'd', b'e', b'r', 0, 0, 0, 7, // one-way "order", number 7
+    0x0b, 0, 1, 0, 0, 0, 2, b'A', b'7',
+    // a map of one text to a list of two bytes
+    0x0d, 0, 9, 0x0b, 0x0f, 0, 0, 0, 1, 0, 0, 0, 1, b'k', 0x03, 0, 0, 0, 2, 1, 2,
+    0x0a, 0, 2, 0, 0, 0, 0, 0, 0, 0, 25,
+    0x00,
+];
 
-    // the same with a list that says it is longer than it is: refused, and nothing is read as a quantity
-    bytes[27] = 0x7f;
-    match read_order(&bytes) {
-        Ok((order, _)) => println!("{order:?}"),
-        Err(refused) => println!("{refused}"),
-    }
+fn main() -> Result<(), Box<dyn Error>> {
+    println!("{:?}", read_order(&ORDER)?);
+
+    // Cut off inside the unknown field.
+    println!("cut off: {}", read_order(&ORDER[..46]).unwrap_err());
+
+    // The unknown field's list says 15 elements for 2. Fourteen bytes are left for them, the quantity's own among them.
+    let mut damaged = ORDER;
+    damaged[44] = 15;
+    println!("damaged: {}", read_order(&damaged).unwrap_err());
     Ok(())
+}
+
+#[cfg(test)]
+mod tests {
+    use super::{read_order, Order, ORDER};
+
+    fn said(bytes: &[u8]) -> String {
+        read_order(bytes).unwrap_err().to_string()
+    }
+
+    #[test]
+    fn the_whole_order_is_read() {
+        let order = Order {
+            account: "A7",
+            quantity: 25,
+        };
+        assert_eq!(read_order(&ORDER).unwrap(), order);
+    }
+
+    #[test]
+    fn an_order_cut_off_anywhere_is_refused() {
+        for length in 0..ORDER.len() {
+            assert!(said(&ORDER[..length]).starts_with("refusal 1: short input, at byte "));
+        }
+        assert_eq!(
+            said(&ORDER[..46]),
+            "refusal 1: short input, at byte 46 (the first byte of the item that is not wholly there), \
+             5 values begun"
+        );
+    }
+
+    /// Some of these skips end where the sizes say, elsewhere in the order: then it lacks a quantity or ends early.
+    #[test]
+    fn an_order_with_a_wrong_size_in_it_is_not_read() {
+        for size in (0..=255).filter(|size| *size != ORDER[44]) {
+            let mut damaged = ORDER;
+            damaged[44] = size;
+            assert!(read_order(&damaged).is_err(), "size {size}");
+        }
+    }
 }

@@ -77,7 +77,8 @@ pub fn skip(bytes: &[u8], place: usize, depth: usize, type_byte: u8) -> [u64; 3]
             record.as_flattened().len(),
         )
     };
-    debug_assert_eq!(returned, 0, "the record has 24 bytes");
+    // else the record is as it was made, and would read as an acceptance
+    assert_eq!(returned, 0, "the record has 24 bytes");
     numbers(&record)
 }
 
@@ -135,4 +136,49 @@ pub fn write(call: &WriteCall<'_>, out: &mut [u8]) -> Option<[u64; 6]> {
         )
     };
     (returned == 0).then(|| numbers(&record))
+}
+
+#[cfg(test)]
+mod tests {
+    use super::thrift_skip;
+
+    /// What `thrift_skip` returns for a bool that is there, and its record.
+    fn skip_bool<const N: usize>(place: usize, depth: usize, type_byte: u8) -> (u32, [u8; N]) {
+        let mut record = [0xee; N];
+        // SAFETY: both pointers and lengths are those of live slices.
+        let returned = unsafe {
+            thrift_skip(
+                [2].as_ptr(),
+                1,
+                place,
+                depth,
+                type_byte,
+                record.as_mut_ptr(),
+                N,
+            )
+        };
+        (returned, record)
+    }
+
+    /// The one refusal that is returned and not recorded. `skip` never gets it: its record has 24 bytes.
+    #[test]
+    fn a_short_record_is_15_before_all_else_and_untouched() {
+        let full = (15, [0xee; 23]);
+        assert_eq!(skip_bool(0, 1, 0x02), full);
+        assert_eq!(skip_bool(2, 1, 0x02), full);
+        assert_eq!(skip_bool(0, 128, 0x02), full);
+        assert_eq!(skip_bool(0, 1, 0x05), full);
+        assert_eq!(skip_bool(0, 1, 0x02), (15, []));
+    }
+
+    #[test]
+    fn bytes_after_the_24th_stay() {
+        let (returned, record) = skip_bool::<32>(0, 1, 0x02);
+        assert_eq!(returned, 0);
+        assert_eq!(
+            record[..24],
+            [[0; 8], 1_u64.to_be_bytes(), 1_u64.to_be_bytes()].concat()
+        );
+        assert_eq!(record[24..], [0xee; 8]);
+    }
 }

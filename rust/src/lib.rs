@@ -8,20 +8,23 @@
 //! [`skip`] passes one value of a type that the caller does not know:
 //!
 //! ```
+//! use turmyshge::{skip, DEFAULT_SKIP_DEPTH};
+//!
 //! // a struct: field 1 is the i32 9, then Stop
 //! let bytes = [0x08, 0, 1, 0, 0, 0, 9, 0];
-//! let passed = turmyshge::skip(&bytes, 0, 64, 0x0c).unwrap();
+//! let passed = skip(&bytes, 0, DEFAULT_SKIP_DEPTH, 0x0c).unwrap();
 //! assert_eq!((passed.end, passed.count), (8, 2));
 //!
 //! // a text of four bytes with one missing
-//! let refused = turmyshge::skip(&[0, 0, 0, 4, b'a', b'b', b'c'], 0, 64, 0x0b).unwrap_err();
-//! assert_eq!(refused.to_string(), "refusal 1: short input, at byte 4, 1 value begun");
+//! let refused = skip(&[0, 0, 0, 4, b'a', b'b', b'c'], 0, DEFAULT_SKIP_DEPTH, 0x0b).unwrap_err();
+//! assert_eq!((refused.refusal.number(), refused.place), (1, 4));
+//! println!("{refused}");
 //! ```
 //!
 //! [`steps`] has the words in which single reads and writes are asked for. With the feature `steps` it also has the
 //! calls themselves, over a second archive (`rt staticlib probe`).
 #![deny(unsafe_code)]
-#![warn(missing_docs)]
+#![deny(missing_docs)]
 
 #[allow(unsafe_code)]
 mod ffi;
@@ -30,4 +33,4 @@ mod skip;
 pub mod steps;
 
 pub use refusal::Refusal;
-pub use skip::{skip, Refused, Skipped};
+pub use skip::{skip, Refused, Skipped, DEFAULT_SKIP_DEPTH};

@@ -3,12 +3,20 @@
 use std::fmt;
 
 macro_rules! refusals {
-    ($($name:ident = $number:literal, $words:literal;)*) => {
+    ($($name:ident = $number:literal, $words:literal, $place:literal;)*) => {
         /// Why a call was refused. The numbers are the same in every language that the codec is called from.
+        ///
+        /// ```
+        /// use turmyshge::Refusal;
+        ///
+        /// assert_eq!(Refusal::from_number(7), Some(Refusal::StringLimit));
+        /// assert_eq!(Refusal::StringLimit.to_string(), "refusal 7: text above the string limit");
+        /// assert_eq!(Refusal::StringLimit.points_at(), "the length's first byte");
+        /// ```
         #[derive(Clone, Copy, Debug, PartialEq, Eq, PartialOrd, Ord, Hash)]
         #[repr(u8)]
         pub enum Refusal {
-            $(#[doc = $words] $name = $number,)*
+            $(#[doc = concat!($number, ", ", $words, ". Its place: ", $place, ".")] $name = $number,)*
         }
 
         impl Refusal {
@@ -21,31 +29,38 @@ macro_rules! refusals {
                     $(Refusal::$name => $words,)*
                 }
             }
+
+            /// What stands at the place that comes with it, in words.
+            pub fn points_at(self) -> &'static str {
+                match self {
+                    $(Refusal::$name => $place,)*
+                }
+            }
         }
     };
 }
 
 refusals! {
-    ShortInput = 1, "short input";
-    StartBeyond = 2, "the start lies beyond the buffer";
-    BadVersion = 3, "bad version";
-    BadMessageType = 4, "message type not 1 to 4";
-    UnknownType = 5, "unknown type byte";
-    NegativeSize = 6, "negative size";
-    StringLimit = 7, "text above the string limit";
-    ContainerLimit = 8, "size above the container limit";
-    MessageLimit = 9, "container's least bytes above the message limit";
-    SkipDepth = 10, "skip depth used up";
-    StructDepth = 11, "struct depth at its limit";
-    WrongType = 12, "type that can't be skipped, or is no scalar";
-    NotUtf8 = 13, "not UTF-8";
-    NoStructOpen = 14, "struct end with none open";
-    OutputFull = 15, "output full";
-    TooLong = 16, "longer than 2,147,483,647 bytes";
-    Missing = 17, "field id or map type missing";
-    FrameLimit = 18, "frame above the frame limit";
-    FrameAboveMessage = 19, "frame limit above message limit";
-    DepthBeyond = 20, "depth above 127, or struct depth above 65,535";
+    ShortInput = 1, "short input", "the first byte of the item that is not wholly there";
+    StartBeyond = 2, "the start lies beyond the buffer", "the start";
+    BadVersion = 3, "bad version", "the header's first byte";
+    BadMessageType = 4, "message type not 1 to 4", "that byte";
+    UnknownType = 5, "unknown type byte", "that byte, or the start where the caller named the type";
+    NegativeSize = 6, "negative size", "the size's first byte";
+    StringLimit = 7, "text above the string limit", "the length's first byte";
+    ContainerLimit = 8, "size above the container limit", "the size's first byte";
+    MessageLimit = 9, "container's least bytes above the message limit", "the size's first byte";
+    SkipDepth = 10, "skip depth used up", "where the value would begin";
+    StructDepth = 11, "struct depth at its limit", "where the struct would begin";
+    WrongType = 12, "type that can't be skipped, or is no scalar", "where the value would begin";
+    NotUtf8 = 13, "not UTF-8", "the text's first byte; in a write 0, counted in the text";
+    NoStructOpen = 14, "struct end with none open", "the start";
+    OutputFull = 15, "output full", "the write place";
+    TooLong = 16, "longer than 2,147,483,647 bytes", "the write place";
+    Missing = 17, "field id or map type missing", "the write place";
+    FrameLimit = 18, "frame above the frame limit", "the frame header's first byte";
+    FrameAboveMessage = 19, "frame limit above message limit", "always 0";
+    DepthBeyond = 20, "depth above 127, or struct depth above 65,535", "the start";
 }
 
 impl Refusal {
@@ -58,6 +73,16 @@ impl Refusal {
     pub fn from_number(number: u64) -> Option<Refusal> {
         let before = usize::try_from(number.checked_sub(1)?).ok()?;
         Refusal::ALL.get(before).copied()
+    }
+
+    /// The refusal that an archive's record tells, or none for 0. A number that is neither is no acceptance.
+    pub(crate) fn in_record(number: u64) -> Option<Refusal> {
+        let refusal = Refusal::from_number(number);
+        assert!(
+            refusal.is_some() || number == 0,
+            "the archive is another one: it tells refusal {number}"
+        );
+        refusal
     }
 }
 
@@ -82,5 +107,11 @@ mod tests {
         }
         assert_eq!(Refusal::from_number(0), None);
         assert_eq!(Refusal::from_number(21), None);
+    }
+
+    #[test]
+    #[should_panic(expected = "it tells refusal 21")]
+    fn an_unknown_number_is_no_acceptance() {
+        Refusal::in_record(21);
     }
 }

@@ -5,6 +5,9 @@ use std::fmt;
 
 use crate::{ffi, Refusal};
 
+/// The depth that a skip usually starts with. The greatest is 127.
+pub const DEFAULT_SKIP_DEPTH: usize = 64;
+
 /// A value was passed.
 #[derive(Clone, Copy, Debug, PartialEq, Eq)]
 pub struct Skipped {
@@ -15,11 +18,24 @@ pub struct Skipped {
 }
 
 /// No value of the type stands there within depth and limits.
+///
+/// ```
+/// use turmyshge::{skip, Refusal, Refused, DEFAULT_SKIP_DEPTH};
+///
+/// // a list that says it holds three i16, and holds two
+/// let list = [0x06, 0, 0, 0, 3, 0, 1, 0, 2];
+/// let refused = skip(&list, 0, DEFAULT_SKIP_DEPTH, 0x0f).unwrap_err();
+/// assert_eq!(refused, Refused { refusal: Refusal::ShortInput, place: 9, count: 4 });
+/// assert_eq!(
+///     refused.to_string(),
+///     "refusal 1: short input, at byte 9 (the first byte of the item that is not wholly there), 4 values begun"
+/// );
+/// ```
 #[derive(Clone, Copy, Debug, PartialEq, Eq)]
 pub struct Refused {
     /// Why.
     pub refusal: Refusal,
-    /// Where the fault stands.
+    /// Where the fault stands; [`Refusal::points_at`] says what is there.
     pub place: usize,
     /// The number of values begun before it.
     pub count: usize,
@@ -30,8 +46,11 @@ impl fmt::Display for Refused {
         let values = if self.count == 1 { "value" } else { "values" };
         write!(
             f,
-            "{}, at byte {}, {} {values} begun",
-            self.refusal, self.place, self.count
+            "{}, at byte {} ({}), {} {values} begun",
+            self.refusal,
+            self.place,
+            self.refusal.points_at(),
+            self.count
         )
     }
 }
@@ -43,23 +62,26 @@ pub(crate) fn in_memory(number: u64) -> usize {
     usize::try_from(number).expect("places and counts are usize in the archive")
 }
 
-/// Passes the value of the type `type_byte` that starts at `place`, down to `depth` levels (0 to 127; 64 is usual).
+/// Passes the value of the type `type_byte` that starts at `place`, down to `depth` levels (0 to 127;
+/// [`DEFAULT_SKIP_DEPTH`] is usual).
 ///
 /// The limits are the defaults: texts to 104,857,600 bytes, structs nested to 64, containers whose least size is at
 /// most 104,857,600 bytes. The bytes are only looked at; a refused skip leaves the caller's place as it was.
 ///
-/// Refuses 2, 20, 5, then what the value's own bytes call for: 1, 5, 6, 7, 9, 10, 11, 12.
+/// Every call answers. It refuses 2, 20, 5, then what the value's own bytes call for: 1, 5, 6, 7, 9, 10, 11, 12.
 ///
 /// ```
+/// use turmyshge::{skip, Refusal, Skipped};
+///
 /// // the list of two bytes 5 and 6
 /// let list = [0x03, 0, 0, 0, 2, 5, 6];
-/// assert_eq!(turmyshge::skip(&list, 0, 2, 0x0f).unwrap().end, 7);
-/// assert_eq!(turmyshge::skip(&list, 0, 1, 0x0f).unwrap_err().refusal.number(), 10);
+/// assert_eq!(skip(&list, 0, 2, 0x0f), Ok(Skipped { end: 7, count: 3 }));
+/// assert_eq!(skip(&list, 0, 1, 0x0f).unwrap_err().refusal, Refusal::SkipDepth);
 /// ```
 pub fn skip(bytes: &[u8], place: usize, depth: usize, type_byte: u8) -> Result<Skipped, Refused> {
     let [number, end, count] = ffi::skip(bytes, place, depth, type_byte);
     let (end, count) = (in_memory(end), in_memory(count));
-    match Refusal::from_number(number) {
+    match Refusal::in_record(number) {
         None => Ok(Skipped { end, count }),
         Some(refusal) => Err(Refused {
             refusal,

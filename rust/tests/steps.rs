@@ -1,4 +1,5 @@
-//! Single reads and writes: what is written reads back, and each refusal that the skip can't give is given once.
+//! Single reads and writes: what is written reads back, and each refusal that the skip can't give is given once. Only
+//! 16 is left out: it takes a text of 2,147,483,648 bytes.
 #![cfg(feature = "steps")]
 
 use turmyshge::steps::{self, Limits, MessageType, ReadCall, ReadStep, StepRefused, TType};
@@ -94,6 +95,22 @@ fn reads_are_refused() {
     assert_eq!(build.into_result(), refused(Refusal::FrameAboveMessage, 0));
     let end = steps::read(&ReadCall::new(ReadStep::StructEnd, &[], 0));
     assert_eq!(end.into_result(), refused(Refusal::NoStructOpen, 0));
+}
+
+#[test]
+fn starts_and_struct_depths_beyond_are_refused() {
+    assert_eq!(
+        steps::read_i16(&[0; 4], 5),
+        refused(Refusal::StartBeyond, 5)
+    );
+    let call = ReadCall {
+        struct_depth: 65_536,
+        ..ReadCall::new(ReadStep::StructBegin, &[0; 4], 2)
+    };
+    assert_eq!(
+        steps::read(&call).into_result(),
+        refused(Refusal::DepthBeyond, 2)
+    );
 }
 
 #[test]

@@ -6,6 +6,14 @@ use std::fmt;
 use crate::Refusal;
 
 /// The answer of any step.
+///
+/// ```
+/// use turmyshge::steps::Answer;
+/// use turmyshge::Refusal;
+///
+/// assert_eq!(Answer::accepted(4, [9, 0, 0, 0]).into_result(), Ok(([9, 0, 0, 0], 4)));
+/// assert_eq!(Answer::refused(Refusal::ShortInput, 4).into_result().unwrap_err().place, 4);
+/// ```
 #[derive(Clone, Copy, Debug, PartialEq, Eq)]
 pub struct Answer {
     /// Why the call was refused, if it was.
@@ -18,11 +26,22 @@ pub struct Answer {
 }
 
 /// A step was refused.
+///
+/// ```
+/// use turmyshge::steps::StepRefused;
+/// use turmyshge::Refusal;
+///
+/// let refused = StepRefused { refusal: Refusal::FrameLimit, place: 0 };
+/// assert_eq!(
+///     refused.to_string(),
+///     "refusal 18: frame above the frame limit, at byte 0 (the frame header's first byte)"
+/// );
+/// ```
 #[derive(Clone, Copy, Debug, PartialEq, Eq)]
 pub struct StepRefused {
     /// Why.
     pub refusal: Refusal,
-    /// Where the fault stands.
+    /// Where the fault stands; [`Refusal::points_at`] says what is there.
     pub place: usize,
 }
 
@@ -49,7 +68,7 @@ impl Answer {
     #[cfg(feature = "steps")]
     pub(crate) fn from_record([number, place, a, b, c, d]: [u64; 6]) -> Answer {
         Answer {
-            refusal: Refusal::from_number(number),
+            refusal: Refusal::in_record(number),
             place: crate::skip::in_memory(place),
             values: [a, b, c, d],
         }
@@ -82,7 +101,13 @@ impl fmt::Display for Answer {
 
 impl fmt::Display for StepRefused {
     fn fmt(&self, f: &mut fmt::Formatter<'_>) -> fmt::Result {
-        write!(f, "{}, at byte {}", self.refusal, self.place)
+        write!(
+            f,
+            "{}, at byte {} ({})",
+            self.refusal,
+            self.place,
+            self.refusal.points_at()
+        )
     }
 }
 

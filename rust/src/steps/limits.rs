@@ -1,6 +1,13 @@
 //! The five limits.
 
 /// The limits of a call. An absent one refuses nothing.
+///
+/// ```
+/// use turmyshge::steps::Limits;
+///
+/// let limits = Limits { container: Some(1_000), ..Limits::DEFAULT };
+/// assert_eq!((limits.structs, limits.container), (Some(64), Some(1_000)));
+/// ```
 #[derive(Clone, Copy, Debug, PartialEq, Eq)]
 pub struct Limits {
     /// Bytes that a container's elements must at least take.

@@ -25,6 +25,19 @@ pub use types::{MessageType, TType};
 pub use write_call::{Absent, WriteCall, WriteStep};
 
 /// Makes the read that `call` describes.
+///
+/// ```
+/// use turmyshge::steps::{read, ReadCall, ReadStep, TType};
+/// use turmyshge::Refusal;
+///
+/// // a skip of a list of two bytes, with room for no element
+/// let call = ReadCall {
+///     depth: 1,
+///     ..ReadCall::new(ReadStep::Skip, &[3, 0, 0, 0, 2, 5, 6], 0).of(TType::List)
+/// };
+/// let answer = read(&call);
+/// assert_eq!((answer.refusal, answer.place), (Some(Refusal::SkipDepth), 5));
+/// ```
 #[cfg(feature = "steps")]
 pub fn read(call: &ReadCall<'_>) -> Answer {
     Answer::from_record(crate::ffi::read(call).expect("every step and type here is known there"))
@@ -32,6 +45,19 @@ pub fn read(call: &ReadCall<'_>) -> Answer {
 
 /// Makes the write that `call` describes into `out`, or answers none where its arguments make no call: a message type
 /// that is not 1 to 4, a type index above 14, a UUID that has not 16 bytes.
+///
+/// ```
+/// use turmyshge::steps::{write, WriteCall, WriteStep};
+///
+/// let mut out = [0xee; 4];
+/// let call = WriteCall { number: 7, ..WriteCall::new(WriteStep::I16, 1) };
+/// assert_eq!(write(&call, &mut out).unwrap().place, 3);
+/// assert_eq!(out, [0xee, 0, 7, 0xee]);
+///
+/// // a UUID of one byte
+/// let call = WriteCall { text: &[7], ..WriteCall::new(WriteStep::Uuid, 0) };
+/// assert_eq!(write(&call, &mut out), None);
+/// ```
 #[cfg(feature = "steps")]
 pub fn write(call: &WriteCall<'_>, out: &mut [u8]) -> Option<Answer> {
     crate::ffi::write(call, out).map(Answer::from_record)

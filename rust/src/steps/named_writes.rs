@@ -48,6 +48,16 @@ pub fn write_i32(out: &mut [u8], place: usize, value: i32) -> Written {
 }
 
 /// A signed number of 8 bytes. Refuses 2, 15.
+///
+/// ```
+/// use turmyshge::steps::write_i64;
+///
+/// let mut out = [0; 8];
+/// assert_eq!(write_i64(&mut out, 0, 25), Ok(8));
+/// assert_eq!(out, [0, 0, 0, 0, 0, 0, 0, 25]);
+/// assert!(write_i64(&mut out, 1, -1).is_err());
+/// assert_eq!(out, [0, 0, 0, 0, 0, 0, 0, 25]);
+/// ```
 pub fn write_i64(out: &mut [u8], place: usize, value: i64) -> Written {
     number(WriteStep::I64, out, place, value as u64)
 }
@@ -63,6 +73,14 @@ pub fn write_bytes(out: &mut [u8], place: usize, body: &[u8]) -> Written {
 }
 
 /// A length and the text. Refuses 2, 16, 15.
+///
+/// ```
+/// use turmyshge::steps::write_string;
+///
+/// let mut out = [0; 6];
+/// assert_eq!(write_string(&mut out, 0, "A7"), Ok(6));
+/// assert_eq!(out, [0, 0, 0, 2, b'A', b'7']);
+/// ```
 pub fn write_string(out: &mut [u8], place: usize, body: &str) -> Written {
     text(WriteStep::String, out, place, body.as_bytes())
 }
@@ -73,6 +91,17 @@ pub fn write_uuid(out: &mut [u8], place: usize, uuid: [u8; 16]) -> Written {
 }
 
 /// A field header. An absent id is refused unless the type is Stop. Refuses 2, 17, 15.
+///
+/// ```
+/// use turmyshge::steps::{write_field_begin, TType};
+/// use turmyshge::Refusal;
+///
+/// let mut out = [0; 3];
+/// assert_eq!(write_field_begin(&mut out, 0, TType::I32, Some(9)), Ok(3));
+/// assert_eq!(out, [0x08, 0, 9]);
+/// let refused = write_field_begin(&mut out, 0, TType::I32, None).unwrap_err();
+/// assert_eq!(refused.refusal, Refusal::Missing);
+/// ```
 pub fn write_field_begin(out: &mut [u8], place: usize, kind: TType, id: Option<i16>) -> Written {
     let call = WriteCall {
         kind: kind as u8,
@@ -101,6 +130,14 @@ fn elements(step: WriteStep, out: &mut [u8], place: usize, kind: TType, size: i3
 }
 
 /// A list header; a negative size is written as given. Refuses 2, 15.
+///
+/// ```
+/// use turmyshge::steps::{write_list_begin, TType};
+///
+/// let mut out = [0; 5];
+/// assert_eq!(write_list_begin(&mut out, 0, TType::I08, 2), Ok(5));
+/// assert_eq!(out, [0x03, 0, 0, 0, 2]);
+/// ```
 pub fn write_list_begin(out: &mut [u8], place: usize, kind: TType, size: i32) -> Written {
     elements(WriteStep::ListBegin, out, place, kind, size)
 }
@@ -128,6 +165,14 @@ pub fn write_map_begin(
 }
 
 /// A message header, with a version where `strict`. Refuses 2, 16, 15.
+///
+/// ```
+/// use turmyshge::steps::{write_message_begin, MessageType};
+///
+/// let mut out = [0; 14];
+/// assert_eq!(write_message_begin(&mut out, 0, true, "ab", MessageType::Call, 7), Ok(14));
+/// assert_eq!(out, [0x80, 1, 0, 1, 0, 0, 0, 2, b'a', b'b', 0, 0, 0, 7]);
+/// ```
 pub fn write_message_begin(
     out: &mut [u8],
     place: usize,
@@ -147,6 +192,15 @@ pub fn write_message_begin(
 }
 
 /// A frame: length and payload, or nothing for an empty payload. Refuses 2, 16, 15.
+///
+/// ```
+/// use turmyshge::steps::write_frame;
+///
+/// let mut line = [0; 6];
+/// assert_eq!(write_frame(&mut line, 0, b"hi"), Ok(6));
+/// assert_eq!(line, [0, 0, 0, 2, b'h', b'i']);
+/// assert_eq!(write_frame(&mut line, 3, b""), Ok(3));
+/// ```
 pub fn write_frame(out: &mut [u8], place: usize, payload: &[u8]) -> Written {
     text(WriteStep::Frame, out, place, payload)
 }

@@ -1,6 +1,14 @@
 //! The codes of types and of messages.
 
 /// A Thrift type. Its number here is its place in this list, not its byte on the wire.
+///
+/// ```
+/// use turmyshge::steps::TType;
+///
+/// assert_eq!(TType::List.byte(), 0x0f);
+/// assert_eq!(TType::from_byte(0x0b), Some(TType::String));
+/// assert_eq!(TType::from_byte(0x05), None);
+/// ```
 #[derive(Clone, Copy, Debug, PartialEq, Eq)]
 #[repr(u8)]
 pub enum TType {
@@ -71,7 +79,14 @@ impl TType {
     }
 }
 
-/// What a message is.
+/// What a message is. Its number here is its byte on the wire.
+///
+/// ```
+/// use turmyshge::steps::MessageType;
+///
+/// assert_eq!(MessageType::OneWay as u8, 4);
+/// assert_eq!(MessageType::from_byte(5), None);
+/// ```
 #[derive(Clone, Copy, Debug, PartialEq, Eq)]
 #[repr(u8)]
 pub enum MessageType {
