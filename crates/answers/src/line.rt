@@ -39,7 +39,7 @@ fn after(line: &[u8], at: usize) -> usize {
     at
 }
 
-pub fn number(line: &[u8], from: usize) -> Word {
+pub(crate) fn number(line: &[u8], from: usize) -> Word {
     let mut at = from;
     let mut value = 0;
     while at < line.len() && goes_on(line, at) {
@@ -53,7 +53,7 @@ pub fn number(line: &[u8], from: usize) -> Word {
 }
 
 // The 17 numbers that each line has; the place after them.
-pub fn numbers(line: &[u8], from: usize, out: &mut [u64; 17]) -> usize {
+pub(crate) fn numbers(line: &[u8], from: usize, out: &mut [u64; 17]) -> usize {
     let mut next = from;
     let mut i = 0;
     while i < 17 {
@@ -66,7 +66,7 @@ pub fn numbers(line: &[u8], from: usize, out: &mut [u64; 17]) -> usize {
 }
 
 // A string of at most 64 bytes. An empty one is a dash.
-pub fn bytes(line: &[u8], from: usize, out: &mut [u8; 64]) -> Word {
+pub(crate) fn bytes(line: &[u8], from: usize, out: &mut [u8; 64]) -> Word {
     let mut at = from;
     let mut n = 0;
     while n < 64 && goes_on(line, at) {

@@ -137,7 +137,7 @@ fn put_at(bytes: &[u8], place: usize, out: &mut [u8]) {
     }
 }
 
-pub fn same_answer(line: &[u8]) -> bool {
+pub(crate) fn same_answer(line: &[u8]) -> bool {
     if line.len() < 2 {
         return false;
     }

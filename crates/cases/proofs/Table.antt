@@ -1,19 +1,21 @@
 -- Document 01's cases: each promise settles the answer that stands there. Assumes nothing.
-use Prim.Native.Nat.{ℕ, _≤_}
-use mathlib.Core.Path.{_≡_, refl, sym, ap, subst, _∙_}
-use mathlib.Core.Bool.{true, false}
+use Prim.Native.Nat.{ℕ, _<_}
+use mathlib.Core.Path.{_≡_, refl, sym, ap}
 use mathlib.Core.List.{List, [], _∷_}
 use lib.IntN.{pos}
 use native.Mathlib.Omega.{arith}
-use Rattle.wire.specs.Answer.{Answer, gives, refused, refuseIf, andThen, stayAt, within, itemAt}
-use Rattle.wire.specs.Writes.{laid, writeAt, answered, left}
-use Rattle.wire.specs.Shapes.{shapeOf}
+use borrow.Author.Needs.{needs}
+use Rattle.wire.specs.Answer.{Answer, gives, refuseIf, andThen, stayAt, within, itemAt}
+use Rattle.wire.specs.Writes.{laid, writeAt}
+use Rattle.wire.specs.declared.shape.Shape.the-variants as Sh
+use Rattle.wire.proofs.Tables.{Each, entry}
 use Rattle.wire.specs.declared.codes.TType.{TType}
 use Rattle.wire.specs.declared.codes.TType.the-variants as T
 use Rattle.wire.specs.declared.codes.TMessageType.the-variants as M
 use Rattle.config.specs.Limits.{defaultLimits}
 use Rattle.number.specs.BigEndian.{big, bytesOf}
 use Rattle.number.specs.Reads.{numberAt}
+use Rattle.number.proofs.Widths.{Octets}
 use Rattle.utf8.specs.Utf8.Char.{one}
 use Rattle.utf8.specs.Utf8.Text.{empty, more}
 use Rattle.utf8.specs.Fronts.{at-end}
@@ -22,20 +24,18 @@ use Rattle.text.specs.declared.Span.{Span}
 use Rattle.text.specs.Texts.{span, sizeAt, limitedAt, sizedAt, stringAt}
 use Rattle.text.proofs.Texts as texts
 use Rattle.read.specs.Headers.{typeAt, fieldAt, countAt, listAt, structBeginAt}
-use Rattle.message.specs.Messages.{message, messageTypeAt, namedAt, versionedAt, unversionedAt, messageAt}
-use Rattle.tree.specs.Answers.{Outcome, skipEntry, AfterEntry}
-use Rattle.tree.proofs.Only.{answer-model}
-use Rattle.tree.proofs.Model.{elements, fields, skipAs}
-use Rattle.skip.specs.Skips.{toldSkipped, SkipSays}
-use Rattle.write.specs.Outputs.{fieldOutput}
-use Rattle.write.specs.declared.field.FieldId.the-variants as Id
-use Rattle.framed.specs.Frames.{frame, frameAt}
-use Rattle.cases.specs.Table.{table, Every, Settled, skipped, versioned, unversioned, two-bytes}
+use Rattle.message.specs.Messages.{messageTypeAt, namedAt, versionedAt, unversionedAt, messageAt}
+use Rattle.tree.specs.Answers.{Outcome, SkipAnswers, Stands, IsCut}
+use Rattle.tree.proofs.Only.{skip-only}
+use Rattle.tree.proofs.Steps as steps
+use Rattle.skip.specs.Skips.{toldSkipped}
+use Rattle.write_headers.specs.Outputs.{fieldOutput}
+use Rattle.framed.specs.Frames.{frameAt}
+use Rattle.cases.specs.Table.{table, Every, Settled, skipped, versioned, unversioned, two-bytes, voids, i32-field}
 
--- what the function of the skip's one answer computes is what the promise settles
-by-model : (t : TType) (d : ℕ) (s : List ℕ) (x : Outcome) → skipEntry d 0 s 0 ≡ gives tt 0 → skipAs defaultLimits s d 0 (shapeOf t) 0 ≡ x → Settled (skipped t d s x)
-by-model t d s x i e r h =
-    sym (answer-model defaultLimits s 0 d 0 (shapeOf t) (toldSkipped r) (subst (λ (m : Answer Unit). AfterEntry m defaultLimits s 0 d 0 (shapeOf t) (toldSkipped r)) i (h .answers))) ∙ e
+-- an answer that the promise admits is the only one
+the-one : (t : TType) (d : ℕ) (s : List ℕ) (x : Outcome) → SkipAnswers defaultLimits s 0 d 0 t x → Settled (skipped t d s x)
+the-one t d s x a = (a, λ r h. skip-only defaultLimits s 0 d 0 t (toldSkipped r) x (h .answers) a)
 
 -- "ab" is UTF-8 to its end
 ab : 2 ≡ upTo (0x61 ∷ 0x62 ∷ [])
@@ -50,34 +50,85 @@ string-first : gives (span 4 6) 6 ≡ stringAt (defaultLimits .«max_string_size
 unfolding sizedAt limitedAt sizeAt numberAt itemAt big within refuseIf andThen
 string-first = texts.string (defaultLimits .«max_string_size») unversioned 0 {p = span 4 6} {next = 6} refl (omega (arith, ab))
 
+-- bytes are below 256, each of them
+octets : (s : List ℕ) → Each (λ n b. b < 256) 0 s → Octets s
+octets s e i = entry (λ n b. b < 256) 0 s 0 e (λ n. omega arith) i
+
+-- W5 to W8: a list's header, and its elements as far as they go
+begun : (d : ℕ) → 0 < d → steps.ListLoop defaultLimits two-bytes 0 d 0 T.I08 (pos 2) 5 5 1 0
+unfolding listAt typeAt countAt sizeAt numberAt itemAt big within refuseIf andThen
+begun d deep = steps.list-start defaultLimits two-bytes 0 d 0 (octets two-bytes (search needs)) deep refl
+
+two-elements : Stands defaultLimits two-bytes 0 2 0 Sh.Items 7 3
+unfolding within refuseIf
+two-elements =
+    steps.list-stands defaultLimits two-bytes 0 2 0 (octets two-bytes (search needs))
+    (steps.list-more defaultLimits two-bytes 0 2 0
+    (steps.list-more defaultLimits two-bytes 0 2 0 (begun 2 (omega arith)) (omega arith)
+    (steps.fixed-stands defaultLimits two-bytes 5 1 0 1 {e = 6} (λ z. omega arith) (omega arith) refl)) (omega arith)
+    (steps.fixed-stands defaultLimits two-bytes 6 1 0 1 {e = 7} (λ z. omega arith) (omega arith) refl))
+    (omega arith)
+
+no-depth-left : IsCut defaultLimits two-bytes 0 1 0 Sh.Items 10 5 2
+no-depth-left =
+    steps.list-cut defaultLimits two-bytes 0 1 0 (begun 1 (omega arith)) (omega arith) (steps.too-deep defaultLimits two-bytes 5 0 0 (Sh.Fixed 1) refl)
+
+no-elements : Stands defaultLimits (voids 0) 0 1 0 Sh.Items 5 1
+unfolding listAt typeAt countAt sizeAt numberAt itemAt big within refuseIf andThen
+no-elements =
+    let o = octets (voids 0) (search needs) in
+    steps.list-stands defaultLimits (voids 0) 0 1 0 o (steps.list-start defaultLimits (voids 0) 0 1 0 o {t = T.Void} {size = pos 0} {first = 5} (omega arith) refl) (omega arith)
+
+a-void : IsCut defaultLimits (voids 1) 0 2 0 Sh.Items 12 5 2
+unfolding listAt typeAt countAt sizeAt numberAt itemAt big within refuseIf andThen
+a-void =
+    steps.list-cut defaultLimits (voids 1) 0 2 0
+    (steps.list-start defaultLimits (voids 1) 0 2 0 (octets (voids 1) (search needs)) {t = T.Void} {size = pos 1} {first = 5} (omega arith) refl) (omega arith)
+    (steps.own-refused defaultLimits (voids 1) 5 1 0 Sh.Unfit 12 5 (λ z. omega arith) refl)
+
+-- W9: the field of four bytes, then the stop
+a-struct : Stands defaultLimits i32-field 0 2 0 Sh.Fields 8 2
+unfolding structBeginAt fieldAt typeAt numberAt itemAt big stayAt within refuseIf andThen
+a-struct =
+    steps.struct-stands defaultLimits i32-field 0 2 0 7 2 {t = T.Stop} {id = pos 0}
+    (steps.struct-more defaultLimits i32-field 0 2 0 0 1 {t = T.I32} {id = pos 1} {p = 3} {e = 7}
+    (steps.struct-start defaultLimits i32-field 0 2 0 {inner = 1} {p = 0} (omega arith) refl) refl refl
+    (steps.fixed-stands defaultLimits i32-field 3 1 1 4 {e = 7} (λ z. omega arith) (omega arith) refl))
+    refl refl
+
+-- W10: the size is negative
+negative : IsCut defaultLimits (0xFF ∷ 0xFF ∷ 0xFF ∷ 0xFF ∷ []) 0 64 0 Sh.Text 6 0 1
+unfolding sizedAt limitedAt sizeAt numberAt itemAt big within refuseIf andThen
+negative = steps.own-refused defaultLimits (0xFF ∷ 0xFF ∷ 0xFF ∷ 0xFF ∷ []) 0 64 0 Sh.Text 6 0 (λ z. omega arith) refl
+
 pub every-case : Every table
-unfolding messageAt versionedAt unversionedAt messageTypeAt namedAt skipAs elements fields structBeginAt fieldAt listAt typeAt countAt sizedAt limitedAt sizeAt numberAt itemAt stayAt within refuseIf andThen big bytesOf frameAt fieldOutput writeAt laid answered left
+unfolding messageAt versionedAt unversionedAt messageTypeAt namedAt frameAt sizedAt limitedAt sizeAt numberAt itemAt stayAt within refuseIf andThen big bytesOf fieldOutput writeAt laid
 every-case = (
-  (λ r h. let e = h ∙ ap (λ (m : Answer Span). andThen m λ name next. namedAt name M.Call versioned next) (sym string-after-version) in (e, rw e refl)),
+  (ap (λ (m : Answer Span). andThen m λ name next. namedAt name M.Call versioned next) (sym string-after-version), refl),
   (
-    (λ r h. let e = h ∙ ap (λ (m : Answer Span). andThen m λ name typed. andThen (messageTypeAt unversioned typed) λ t next. namedAt name t unversioned next) (sym string-first) in (e, rw e refl)),
+    (ap (λ (m : Answer Span). andThen m λ name typed. andThen (messageTypeAt unversioned typed) λ t next. namedAt name t unversioned next) (sym string-first), refl),
     (
-      (λ r h. (h, rw h refl)),
+      (refl, refl),
       (
-        by-model T.Bool 1 (0x02 ∷ []) _ refl refl,
+        the-one T.Bool 1 (0x02 ∷ []) _ (steps.fixed-stands defaultLimits (0x02 ∷ []) 0 1 0 1 (λ z. omega arith) (omega arith) refl),
         (
-          by-model T.Bool 0 (0x02 ∷ []) _ refl refl,
+          the-one T.Bool 0 (0x02 ∷ []) _ (steps.too-deep defaultLimits (0x02 ∷ []) 0 0 0 (Sh.Fixed 1) refl),
           (
-            by-model T.List 2 two-bytes _ refl refl,
+            the-one T.List 2 two-bytes _ two-elements,
             (
-              by-model T.List 1 two-bytes _ refl refl,
+              the-one T.List 1 two-bytes _ no-depth-left,
               (
-                by-model T.List 1 (0x01 ∷ 0x00 ∷ 0x00 ∷ 0x00 ∷ 0x00 ∷ []) _ refl refl,
+                the-one T.List 1 (voids 0) _ no-elements,
                 (
-                  by-model T.List 2 (0x01 ∷ 0x00 ∷ 0x00 ∷ 0x00 ∷ 0x01 ∷ []) _ refl refl,
+                  the-one T.List 2 (voids 1) _ a-void,
                   (
-                    by-model T.Struct 2 (0x08 ∷ 0x00 ∷ 0x01 ∷ 0x00 ∷ 0x00 ∷ 0x00 ∷ 0x09 ∷ 0x00 ∷ []) _ refl refl,
+                    the-one T.Struct 2 i32-field _ a-struct,
                     (
-                      by-model T.String 64 (0xFF ∷ 0xFF ∷ 0xFF ∷ 0xFF ∷ []) _ refl refl,
+                      the-one T.String 64 (0xFF ∷ 0xFF ∷ 0xFF ∷ 0xFF ∷ []) _ negative,
                       (
-                        (λ r h. h),
+                        refl,
                         (
-                          (λ r out h. (h .answer, h .buffer)),
+                          refl,
                           tt,
                         ),
                       ),

@@ -5,27 +5,21 @@ use mathlib.Core.Bool.{Bool, true, false}
 use mathlib.Core.List.{List, [], _∷_}
 use lib.IntN.{pos}
 use Rattle.wire.specs.Answer.{Answer, gives, refused}
-use Rattle.wire.specs.Refusals.{toldMoved}
-use Rattle.wire.specs.Writes.{writeAt, Wrote}
+use Rattle.wire.specs.Writes.{writeAt}
 use Rattle.wire.specs.declared.codes.TType.{TType}
 use Rattle.wire.specs.declared.codes.TType.the-variants as T
 use Rattle.wire.specs.declared.codes.TMessageType.the-variants as M
-use Rattle.wire.specs.declared.cursor.Moved.{Moved}
 use Rattle.config.specs.Limits.{defaultLimits}
 use Rattle.text.specs.Texts.{span, partOf}
 use Rattle.message.specs.Messages.{message, messageAt, nameOf}
-use Rattle.message.specs.Told.{toldMessage}
 use Rattle.message.specs.declared.TMessageIdentifier.{TMessageIdentifier}
-use Rattle.message.specs.declared.MessageRead.{MessageRead}
-use Rattle.tree.specs.Answers.{Outcome, ended, cut-off}
+use Rattle.tree.specs.Answers.{Outcome, ended, cut-off, SkipAnswers}
 use Rattle.skip.specs.Skips.{toldSkipped, SkipSays}
 use Rattle.skip.specs.declared.till_depth.Skipped.{Skipped}
-use Rattle.write.specs.Outputs.{fieldOutput}
-use Rattle.write.specs.declared.field.FieldId.{FieldId}
-use Rattle.write.specs.declared.field.FieldId.the-variants as Id
+use Rattle.write_headers.specs.Outputs.{fieldOutput}
+use Rattle.write_headers.specs.declared.field.FieldId.{FieldId}
+use Rattle.write_headers.specs.declared.field.FieldId.the-variants as Id
 use Rattle.framed.specs.Frames.{Next, frame, frameAt}
-use Rattle.framed.specs.Told.{toldFrame}
-use Rattle.framed.specs.declared.FrameRead.{FrameRead}
 
 pub data Case : Type 0 where
   -- strict or not, the bytes, the name's bytes, the answer
@@ -36,14 +30,13 @@ pub data Case : Type 0 where
   -- the type, the id, the buffer before and after, the place after
   field-written : TType → FieldId → List ℕ → List ℕ → ℕ → Case
 
--- whatever the call's promise lets it answer is the case's answer
+-- What the call's promise comes to is the case's answer. The skip's promise is a relation: it admits the answer, and admits no other
 abbrev pub Settled : Case → Type 0
-Settled (message-read strict s name x) =
-    (r : MessageRead) → toldMessage r ≡ messageAt strict (defaultLimits .«max_string_size») s 0 → (toldMessage r ≡ x) × (partOf s (nameOf (toldMessage r)) ≡ name)
-Settled (skipped t depth s x) = (r : Skipped) → SkipSays defaultLimits s 0 depth 0 t r → toldSkipped r ≡ x
-Settled (frame-read s x) = (r : FrameRead) → toldFrame r ≡ frameAt (defaultLimits .«max_frame_size») s 0 → toldFrame r ≡ x
-Settled (field-written t id old new next) =
-    (r : Moved) (out : List ℕ) → Wrote r out old (writeAt (fieldOutput t id 0) old 0) → (toldMoved r ≡ gives tt next) × (out ≡ new)
+Settled (message-read strict s name x) = (messageAt strict (defaultLimits .«max_string_size») s 0 ≡ x) × (partOf s (nameOf x) ≡ name)
+Settled (skipped t depth s x) =
+    SkipAnswers defaultLimits s 0 depth 0 t x × ((r : Skipped) → SkipSays defaultLimits s 0 depth 0 t r → toldSkipped r ≡ x)
+Settled (frame-read s x) = frameAt (defaultLimits .«max_frame_size») s 0 ≡ x
+Settled (field-written t id old new next) = writeAt (fieldOutput t id 0) old 0 ≡ gives new next
 
 abbrev pub versioned : List ℕ
 versioned = 0x80 ∷ 0x01 ∷ 0x00 ∷ 0x01 ∷ 0x00 ∷ 0x00 ∷ 0x00 ∷ 0x02 ∷ 0x61 ∷ 0x62 ∷ 0x00 ∷ 0x00 ∷ 0x00 ∷ 0x07 ∷ []
@@ -53,6 +46,12 @@ unversioned = 0x00 ∷ 0x00 ∷ 0x00 ∷ 0x02 ∷ 0x61 ∷ 0x62 ∷ 0x01 ∷ 0x0
 
 abbrev pub two-bytes : List ℕ
 two-bytes = 0x03 ∷ 0x00 ∷ 0x00 ∷ 0x00 ∷ 0x02 ∷ 0x05 ∷ 0x06 ∷ []
+
+abbrev pub voids : ℕ → List ℕ
+voids n = 0x01 ∷ 0x00 ∷ 0x00 ∷ 0x00 ∷ n ∷ []
+
+abbrev pub i32-field : List ℕ
+i32-field = 0x08 ∷ 0x00 ∷ 0x01 ∷ 0x00 ∷ 0x00 ∷ 0x00 ∷ 0x09 ∷ 0x00 ∷ []
 
 abbrev pub table : List Case
 table =
@@ -70,11 +69,11 @@ table =
     -- W6
     ∷ skipped T.List 1 two-bytes (cut-off 10 5 2)
     -- W7
-    ∷ skipped T.List 1 (0x01 ∷ 0x00 ∷ 0x00 ∷ 0x00 ∷ 0x00 ∷ []) (ended 5 1)
+    ∷ skipped T.List 1 (voids 0x00) (ended 5 1)
     -- W8
-    ∷ skipped T.List 2 (0x01 ∷ 0x00 ∷ 0x00 ∷ 0x00 ∷ 0x01 ∷ []) (cut-off 12 5 2)
+    ∷ skipped T.List 2 (voids 0x01) (cut-off 12 5 2)
     -- W9
-    ∷ skipped T.Struct 2 (0x08 ∷ 0x00 ∷ 0x01 ∷ 0x00 ∷ 0x00 ∷ 0x00 ∷ 0x09 ∷ 0x00 ∷ []) (ended 8 2)
+    ∷ skipped T.Struct 2 i32-field (ended 8 2)
     -- W10
     ∷ skipped T.String 64 (0xFF ∷ 0xFF ∷ 0xFF ∷ 0xFF ∷ []) (cut-off 6 0 1)
     -- W11

@@ -10,7 +10,7 @@ use wire::codes::TType;
 use wire::cursor::Cursor;
 use wire::cursor::Moved;
 use wire::refusal::Refusal;
-use write::field::FieldId;
+use write_headers::field::FieldId;
 
 fn print(text: &[u8]) {
     io::write_all(1, text);
@@ -113,8 +113,8 @@ fn show_skips() {
     show_skip(b"\x01\x00\x00\x00\x01", TType::List, 2);
     print(b"W9 skip Struct over 08 00 01 00 00 00 09 00, depth 2: ");
     show_skip(b"\x08\x00\x01\x00\x00\x00\x09\x00", TType::Struct, 2);
-    print(b"W10 skip String over FF FF FF FF, depth 1: ");
-    show_skip(b"\xFF\xFF\xFF\xFF", TType::String, 1);
+    print(b"W10 skip String over FF FF FF FF, depth 64: ");
+    show_skip(b"\xFF\xFF\xFF\xFF", TType::String, 64);
 }
 
 fn show_frame(bytes: &[u8]) {
@@ -136,7 +136,7 @@ fn show_frame(bytes: &[u8]) {
 
 fn show_field(field_type: TType, id: FieldId) {
     let mut out = [0xFF; 4];
-    match write::field::write_field_begin(&mut out, Cursor::new(0), field_type, id) {
+    match write_headers::field::write_field_begin(&mut out, Cursor::new(0), field_type, id) {
         Moved::To(next) => {
             io::print_decimal(1, next.at as u64);
             print(b" bytes, the buffer then");

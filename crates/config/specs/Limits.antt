@@ -15,7 +15,7 @@ abbrev pub above : ℕ → Limit → Bool
 above n Absent = false
 above n (AtMost m) = ltb m n
 
--- "a struct begin is refused at depth at or above the limit"
+-- "A struct begin is refused (11) at depth at or above the limit"
 abbrev pub reached : ℕ → Limit → Bool
 reached n Absent = false
 reached n (AtMost m) = leb m n

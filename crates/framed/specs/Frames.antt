@@ -6,7 +6,7 @@ use lib.Dec.{eqb}
 use lib.ListN.{length}
 use Rattle.wire.specs.Answer.{Answer, gives, refused, andThen}
 use Rattle.config.specs.declared.limit.Limit.{Limit}
-use Rattle.text.specs.Texts.{sizedAt}
+use Rattle.text.specs.Texts.{sizedAt, bytesIn}
 use Rattle.text.specs.declared.Span.{Span}
 use Rattle.write.specs.Outputs.{bytesOutput}
 
@@ -22,11 +22,11 @@ frameAt limit s at =
     (andThen (sizedAt 18 limit s at) λ payload next.
     gives (frame payload) next)
 
--- where the payload stands in what was read, if there is one
-abbrev pub payloadOf : Answer Next → Answer Span
-payloadOf (gives (frame p) next) = gives p next
-payloadOf (gives end next) = refused 0 next
-payloadOf (refused n p) = refused n p
+-- the payload's bytes in what was read: none at the end, and none where the frame is refused
+abbrev pub payloadIn : List ℕ → Answer Next → List ℕ
+payloadIn s (gives (frame p) next) = bytesIn s p
+payloadIn s (gives end next) = []
+payloadIn s (refused n p) = []
 
 -- "an empty payload writes nothing; else length and payload", with 16
 unfoldable pub frameOutput : List ℕ → ℕ → Answer (List ℕ)

@@ -1,15 +1,14 @@
 // Frames: a size, then as many bytes. The payload of a frame that is read is a part of the lent bytes.
 use config::configuration::TConfiguration;
+use text::Body;
 use text::Span;
 use text::TextRead;
 use wire::cursor::Cursor;
 use wire::cursor::Moved;
-use wire::refusal::Kind;
 use wire::refusal::Refusal;
 ghost use mathlib.Core.Path.{_≡_};
 ghost use Rattle.wire.specs.Writes.{Wrote, writeAt};
-ghost use Rattle.text.specs.Texts.{partOf};
-ghost use Rattle.framed.specs.Frames.{frameAt, payloadOf, frameOutput};
+ghost use Rattle.framed.specs.Frames.{frameAt, payloadIn, frameOutput};
 ghost use Rattle.framed.specs.Told.{toldFrame};
 
 // A frame by the place of its payload, with the cursor after it, or no more bytes.
@@ -26,7 +25,7 @@ pub fn read_frame(bytes: &[u8], cursor: Cursor, config: TConfiguration) -> Frame
         return FrameRead::End(cursor);
     }
     let limit = config.max_frame_size;
-    match text::read_sized(bytes, cursor, limit, Kind::FrameLimit) {
+    match text::read_sized(bytes, cursor, limit, Body::Frame) {
         TextRead::Value(payload, next) => FrameRead::Frame(payload, next),
         TextRead::Refused(refusal) => FrameRead::Refused(refusal),
     }
@@ -34,7 +33,7 @@ pub fn read_frame(bytes: &[u8], cursor: Cursor, config: TConfiguration) -> Frame
 
 // The payload's own bytes, none at the end and where the frame is refused.
 pub fn payload_part(bytes: &[u8], cursor: Cursor, config: TConfiguration) -> &[u8]
-    ensures { λ r. ⌜ now r ≡ partOf (now (bytes .entry)) (payloadOf (frameAt (config .«max_frame_size») (now (bytes .entry)) (cursor .at))) ⌝ }
+    ensures { λ r. ⌜ now r ≡ payloadIn (now (bytes .entry)) (frameAt (config .«max_frame_size») (now (bytes .entry)) (cursor .at)) ⌝ }
 {
     match read_frame(bytes, cursor, config) {
         FrameRead::Frame(payload, _) => text::part(bytes, payload),

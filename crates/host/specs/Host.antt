@@ -19,7 +19,7 @@ abbrev pub rowOf : Outcome → Row
 rowOf (ended e n) = record { number = 0; place = e; count = n }
 rowOf (cut-off k p n) = record { number = k; place = p; count = n }
 
--- "three big-endian 64-bit numbers"; "bytes after the 24th stay"
+-- "sets the first 24 bytes to three big-endian 64-bit numbers"; the rest stays
 abbrev pub filled : Row → List ℕ → List ℕ
 filled w old = (bytesOf 8 (w .number) ++ bytesOf 8 (w .place) ++ bytesOf 8 (w .count)) ++ drop 24 old
 

@@ -46,7 +46,7 @@ unversionedAt limit s at =
     andThen (messageTypeAt s typed) λ t next.
     namedAt name t s next
 
--- "Four bytes. Top bit set: bytes 0 and 1 must be 80 01 (else 3), byte 2 is ignored. Top bit clear: in strict mode 3"
+-- "Top bit set: bytes 0 and 1 must be 80 01 (else 3), byte 2 is ignored"; "Top bit clear: in strict mode 3"
 unfoldable pub messageAt : Bool → Limit → List ℕ → ℕ → Answer TMessageIdentifier
 messageAt strict limit s at =
     andThen (within s at 4) λ _ _.

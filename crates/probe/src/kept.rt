@@ -1,15 +1,10 @@
 // The lent record: six numbers.
-use crate::rows::Row;
+use rows::Row;
+use rows::Stepped;
 ghost use mathlib.Core.Path.{_≡_};
 ghost use Prim.Native.Nat.{_≤_};
 ghost use lib.ListN.{length};
 ghost use Rattle.probe.specs.Kept.{filled, Left};
-
-// What a step comes to: a record to set, or that there is no such step or type.
-pub(crate) enum Stepped {
-    Set(Row),
-    Unknown,
-}
 
 fn fill(kept: &mut [u8], row: Row)
     requires { ⌜ 48 ≤ length (now kept) ⌝ }

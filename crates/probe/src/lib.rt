@@ -1,14 +1,11 @@
 // Single reads and writes for C and Rust, each asked for by a number, with its answer in a lent record.
-mod asked;
 mod kept;
-mod reading;
-mod rows;
-mod writing;
 
-use crate::writing::Writing;
-ghost use Rattle.probe.specs.Asked.{readStepOf, writeStepOf};
-ghost use Rattle.probe.specs.Reads.{limitsOf, readingOf, Read};
-ghost use Rattle.probe.specs.Writes.{writingOf, doesOf, Written};
+ghost use Rattle.asked.specs.Asked.{readStepOf, writeStepOf, limitsOf};
+ghost use Rattle.read_steps.specs.Reads.{readingOf};
+ghost use Rattle.write_steps.specs.Writes.{writingOf, doesOf};
+ghost use Rattle.probe.specs.Reads.{Read};
+ghost use Rattle.probe.specs.Writes.{Written};
 
 // Returns 15 where the record has fewer than 48 bytes, 1 for a step or type that there is not, and else 0 with the
 // record's first 48 bytes set.
@@ -33,9 +30,19 @@ pub extern "C" fn thrift_read(
     if kept.len() < 48 {
         return 15;
     }
-    let limits = asked::limits(message, frame, structs, container, string);
-    let call = reading::asked_with(place, strict, kind, depth, struct_depth, limits);
-    kept::keep(kept, reading::by_step(bytes, asked::read_step(step), call))
+    let call = read_steps::asked_with(
+        place,
+        strict,
+        kind,
+        depth,
+        struct_depth,
+        message,
+        frame,
+        structs,
+        container,
+        string,
+    );
+    kept::keep(kept, read_steps::by_number(bytes, step, call))
 }
 
 // The same of a write, which also returns 1 for a message type that there is not and a UUID that has not 16 bytes.
@@ -59,16 +66,15 @@ pub extern "C" fn thrift_write(
     if kept.len() < 48 {
         return 15;
     }
-    let call = Writing {
+    let call = write_steps::asked_with(
         place,
-        strict: strict != 0,
+        strict,
         kind,
         other,
         absent,
         number,
         struct_depth,
-        structs: asked::limit(structs),
-    };
-    let stepped = writing::by_step(out, asked::write_step(step), call, text);
-    kept::keep(kept, stepped)
+        structs,
+    );
+    kept::keep(kept, write_steps::by_number(out, step, call, text))
 }

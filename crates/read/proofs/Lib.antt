@@ -1,3 +1,2 @@
 pub mod Headers
-pub mod Scalars
 pub mod Settled

@@ -5,7 +5,7 @@ use Rattle.wire.specs.Answer.{Answer}
 use Rattle.wire.specs.declared.codes.TType.{TType}
 use Rattle.wire.proofs.Refusals.{told-back}
 use Rattle.wire.proofs.Unique.{back, cursor-settled}
-use Rattle.read.specs.Told.{toldType, toldField, toldList, toldSet, toldMap, toldDepth, toldScalar}
+use Rattle.read.specs.Told.{toldType, toldField, toldList, toldSet, toldMap, toldDepth}
 use Rattle.read.specs.declared.field.TypeRead.{TypeRead}
 use Rattle.read.specs.declared.field.TypeRead.the-variants as Type-is
 use Rattle.read.specs.declared.field.TFieldIdentifier.{TFieldIdentifier}
@@ -22,9 +22,6 @@ use Rattle.read.specs.declared.container.MapRead.{MapRead}
 use Rattle.read.specs.declared.container.MapRead.the-variants as Map-is
 use Rattle.read.specs.declared.structs.DepthRead.{DepthRead}
 use Rattle.read.specs.declared.structs.DepthRead.the-variants as Depth-is
-use Rattle.read.specs.declared.scalar.Scalar.{Scalar}
-use Rattle.read.specs.declared.scalar.ScalarRead.{ScalarRead}
-use Rattle.read.specs.declared.scalar.ScalarRead.the-variants as Scalar-is
 
 pub type-settled : {a b : TypeRead} {m : Answer TType} → toldType a ≡ m → toldType b ≡ m → a ≡ b
 unfolding back
@@ -73,11 +70,3 @@ depth-settled = cursor-settled Depth-is.Value Depth-is.Refused toldDepth same
     same : (a : DepthRead) → back Depth-is.Value Depth-is.Refused (toldDepth a) ≡ a
     same (Depth-is.Value v c) = refl
     same (Depth-is.Refused x) = ap Depth-is.Refused (told-back x)
-
-pub scalar-settled : {a b : ScalarRead} {m : Answer Scalar} → toldScalar a ≡ m → toldScalar b ≡ m → a ≡ b
-unfolding back
-scalar-settled = cursor-settled Scalar-is.Value Scalar-is.Refused toldScalar same
-  where
-    same : (a : ScalarRead) → back Scalar-is.Value Scalar-is.Refused (toldScalar a) ≡ a
-    same (Scalar-is.Value v c) = refl
-    same (Scalar-is.Refused x) = ap Scalar-is.Refused (told-back x)

@@ -77,7 +77,7 @@ mapAt c s at =
     andThen (countAt c (leastSize k + leastSize v) s next) λ size end.
     gives (map k v size) end
 
--- "2, 20 (where it takes a struct depth)"
+-- "2, 20 (where it takes a skip depth or a struct depth)": here a struct depth
 abbrev pub depthEntry : {A : Type 0} → ℕ → List ℕ → ℕ → Answer A → Answer A
 depthEntry depth s at rest = entry s at (refuseIf (ltb 65535 depth) 20 at rest)
 

@@ -1,4 +1,3 @@
 pub mod Headers
 pub mod Layouts
-pub mod Scalars
 pub mod Told

@@ -19,9 +19,6 @@ use Rattle.read.specs.declared.container.MapRead.{MapRead}
 use Rattle.read.specs.declared.container.MapRead.the-variants as Map-is
 use Rattle.read.specs.declared.structs.DepthRead.{DepthRead}
 use Rattle.read.specs.declared.structs.DepthRead.the-variants as Depth-is
-use Rattle.read.specs.declared.scalar.Scalar.{Scalar}
-use Rattle.read.specs.declared.scalar.ScalarRead.{ScalarRead}
-use Rattle.read.specs.declared.scalar.ScalarRead.the-variants as Scalar-is
 
 abbrev pub toldType : TypeRead → Answer TType
 toldType (Type-is.Value v c) = gives v (c .at)
@@ -46,7 +43,3 @@ toldMap (Map-is.Refused x) = toldRefusal x
 abbrev pub toldDepth : DepthRead → Answer ℕ
 toldDepth (Depth-is.Value v c) = gives v (c .at)
 toldDepth (Depth-is.Refused x) = toldRefusal x
-
-abbrev pub toldScalar : ScalarRead → Answer Scalar
-toldScalar (Scalar-is.Value v c) = gives v (c .at)
-toldScalar (Scalar-is.Refused x) = toldRefusal x

@@ -1,24 +1,26 @@
 -- Demand 2: the skip accepts exactly where a value of that type stands, and ends where it ends; it refuses exactly as the cut tree says; and no two
 -- answers meet its promise. Assumes nothing.
-use Prim.Native.Nat.{ℕ, _≤_}
+use Prim.Native.Nat.{ℕ, _<_, _≤_}
 use mathlib.Core.Path.{_≡_, sym, ap, subst, _∙_}
 use mathlib.Core.Logic.{_↔_}
 use mathlib.Core.List.{List}
+use native.Mathlib.Decide.{decLt}
+use native.Mathlib.Omega.{arith}
 use lib.ListN.{length}
-use Rattle.wire.specs.Answer.{Answer}
+use Rattle.wire.specs.Answer.{Answer, refused}
 use Rattle.wire.specs.Refusals.{kindNumber}
 use Rattle.wire.specs.Shapes.{shapeOf}
 use Rattle.wire.specs.declared.codes.TType.{TType}
 use Rattle.wire.specs.declared.refusal.Refusal.{Refusal}
 use Rattle.wire.proofs.Refusals.{refusalOf, told-back}
 use Rattle.config.specs.declared.configuration.TConfiguration.{TConfiguration}
-use Rattle.tree.specs.Answers.{Outcome, ended, cut-off, Stands, IsCut, Answers, AfterEntry, SkipAnswers}
+use Rattle.tree.specs.Answers.{Outcome, ended, cut-off, Stands, StandsHere, IsCut, Answers, skipEntry, AfterEntry, SkipAnswers}
 use Rattle.tree.proofs.Heads.{clash}
 use Rattle.tree.proofs.Only.{only, skip-only}
 use Rattle.skip.specs.Skips.{toldSkipped, HandsOn, SkipSays}
 use Rattle.skip.specs.declared.till_depth.Skipped.{Skipped}
 use Rattle.skip.specs.declared.till_depth.Skipped.the-variants as Skip
-use Rattle.skip.proofs.Entry.{entered}
+use Rattle.skip.proofs.Entry.{entry-beyond, entry-depth, entry-struct-depth, entered}
 
 -- with the start not past the end and both depths allowed
 module _ (c : TConfiguration) (s : List ℕ) (at d sd : ℕ) (t : TType) (h : at ≤ length s) (i : d ≤ 127) (j : sd ≤ 65535) where
@@ -37,6 +39,34 @@ module _ (c : TConfiguration) (s : List ℕ) (at d sd : ℕ) (t : TType) (h : at
       λ q. subst (Answers c s at d sd (shapeOf t)) q (enter (toldSkipped r) (says .answers)),
       λ v. only c s at d sd (shapeOf t) (toldSkipped r) (cut-off k p n) (enter (toldSkipped r) (says .answers)) v,
     )
+
+-- for every start and depth: it accepts exactly where a value stands
+module _ (c : TConfiguration) (s : List ℕ) (at d sd : ℕ) (t : TType) where
+  -- an entry that refuses is all that is answered
+  barred : {k p : ℕ} (x : Outcome) → skipEntry d sd s at ≡ refused k p → SkipAnswers c s at d sd t x → x ≡ cut-off k p 0
+  barred x e a = subst (λ (m : Answer Unit). AfterEntry m c s at d sd (shapeOf t) x) e a
+
+  -- 2 and 20 apart, the entry lets in
+  pub by-entry : {P : Type 0} (x : Outcome) → SkipAnswers c s at d sd t x → ((k : ℕ) → x ≡ cut-off k at 0 → P) → (at ≤ length s → d ≤ 127 → sd ≤ 65535 → P) → P
+  by-entry {P} x a out on = go (decLt (length s) at)
+    where
+      structs : at ≤ length s → d ≤ 127 → Dec (65535 < sd) → P
+      structs h i (yes j) = out 20 (barred x (entry-struct-depth c s at d sd t h i j) a)
+      structs h i (no j) = on h i (omega arith)
+
+      depth : at ≤ length s → Dec (127 < d) → P
+      depth h (yes i) = out 20 (barred x (entry-depth c s at d sd t h i) a)
+      depth h (no i) = structs h (omega arith) (decLt 65535 sd)
+
+      go : Dec (length s < at) → P
+      go (yes h) = out 2 (barred x (entry-beyond c s at d sd t h) a)
+      go (no h) = depth (omega arith) (decLt 127 d)
+
+  pub accepts-exactly : (r : Skipped) → SkipSays c s at d sd t r → (e n : ℕ) → (toldSkipped r ≡ ended e n) ↔ StandsHere c s at d sd t e n
+  accepts-exactly r says e n = (
+    λ q. by-entry (toldSkipped r) (says .answers) (λ k b. clash (cc (sym q ∙ b))) (λ h i j. record { inside = h; depth = i; structs = j; stands = accepts c s at d sd t h i j r says e n .0 q }),
+    λ v. accepts c s at d sd t (v .inside) (v .depth) (v .structs) r says e n .1 (v .stands),
+  )
 
 same-told : (sd : ℕ) (a b : Skipped) → toldSkipped a ≡ toldSkipped b → HandsOn sd a → HandsOn sd b → a ≡ b
 same-told sd (Skip.Passed u d n) (Skip.Passed v e m) q p r =

@@ -1,7 +1,7 @@
 -- Elements of a fixed width that are passed together: the list's loop stands after them as if it had passed each. Assumes nothing.
 use Prim.Native.Nat.{ℕ, zero, suc, _+_, _-_, _*_, _≤_, _<_}
-use mathlib.Core.Path.{_≡_, sym, ap, subst}
-use mathlib.Core.Logic.{_⊎_, inl, inr}
+use mathlib.Core.Path.{_≡_, sym, subst}
+use mathlib.Core.Logic.{inl, inr}
 use mathlib.Core.List.{List}
 use lib.IntN.{ℤ, natAbs}
 use lib.ListN.{length}

@@ -6,6 +6,7 @@ use read::container::ListRead;
 use read::container::MapRead;
 use read::field::FieldRead;
 use read::structs::DepthRead;
+use text::Body;
 use wire::codes::TType;
 use wire::cursor::Cursor;
 use wire::cursor::Moved;
@@ -48,7 +49,7 @@ fn skip_text(bytes: &[u8], cursor: Cursor, config: TConfiguration) -> Walked
     ensures { λ r. ⌜ toldWalked r ≡ leafOutcome (judged (bytesAt (config .«max_string_size») (now (bytes .entry)) (cursor .at))) ⌝ }
 {
     let limit = config.max_string_size;
-    match text::read_limited(bytes, cursor, limit, Kind::StringLimit) {
+    match text::read_limited(bytes, cursor, limit, Body::Text) {
         I32Read::Value(size, body) => {
             skip_fixed(bytes, body, number::sign::bits32(size) as usize)
         }

@@ -13,6 +13,8 @@ use Rattle.config.specs.Limits.{above}
 use Rattle.config.specs.declared.limit.Limit.{Limit}
 use Rattle.utf8.specs.UpTo.{upTo}
 use Rattle.text.specs.declared.Span.{Span}
+use Rattle.text.specs.declared.Body.{Body}
+use Rattle.text.specs.declared.Body.the-variants as Body-of
 
 abbrev pub span : ℕ → ℕ → Span
 span a e = record { start = a; end = e }
@@ -26,6 +28,11 @@ unfoldable pub sizeAt : List ℕ → ℕ → Answer ℤ
 sizeAt s at =
     andThen (i32At s at) λ size next.
     refuseIf (ltZ size (pos 0)) 6 at (gives size next)
+
+-- what a size above its limit is refused by: a text's, a frame's
+abbrev pub overNumber : Body → ℕ
+overNumber Body-of.Text = 7
+overNumber Body-of.Frame = 18
 
 -- a size within its limit: above, it is refused by the number given
 unfoldable pub limitedAt : ℕ → Limit → List ℕ → ℕ → Answer ℤ

@@ -11,7 +11,7 @@ use wire::refusal::Refusal;
 ghost use mathlib.Core.Path.{_≡_};
 ghost use Rattle.wire.specs.Refusals.{kindNumber};
 ghost use Rattle.number.specs.Told.{toldI32};
-ghost use Rattle.text.specs.Texts.{sizeAt, limitedAt, sizedAt, bytesAt, stringAt, uuidAt, partIn, partOf};
+ghost use Rattle.text.specs.Texts.{overNumber, sizeAt, limitedAt, sizedAt, bytesAt, stringAt, uuidAt, partIn, partOf};
 ghost use Rattle.text.specs.Told.{toldText};
 
 // From its first byte up to the one after its last.
@@ -23,6 +23,21 @@ pub struct Span {
 pub enum TextRead {
     Value(Span, Cursor),
     Refused(Refusal),
+}
+
+// What a size counts the bytes of: each has a refusal of its own above its limit.
+pub enum Body {
+    Text,
+    Frame,
+}
+
+fn above_limit(body: Body) -> Kind
+    ensures { λ r. ⌜ kindNumber r ≡ overNumber body ⌝ }
+{
+    match body {
+        Body::Text => Kind::StringLimit,
+        Body::Frame => Kind::FrameLimit,
+    }
 }
 
 // A 32-bit size, which must not be negative.
@@ -44,16 +59,16 @@ pub fn read_size(bytes: &[u8], cursor: Cursor) -> I32Read
     }
 }
 
-// A size within its limit; above, it is refused as the kind given.
-pub fn read_limited(bytes: &[u8], cursor: Cursor, limit: Limit, over: Kind) -> I32Read
-    ensures { λ r. ⌜ toldI32 r ≡ limitedAt (kindNumber over) limit (now (bytes .entry)) (cursor .at) ⌝ }
+// A size within its limit.
+pub fn read_limited(bytes: &[u8], cursor: Cursor, limit: Limit, body: Body) -> I32Read
+    ensures { λ r. ⌜ toldI32 r ≡ limitedAt (overNumber body) limit (now (bytes .entry)) (cursor .at) ⌝ }
 {
     let at = cursor.at;
     match read_size(bytes, cursor) {
         I32Read::Value(size, next) => {
             if limit.exceeded_by(number::sign::bits32(size) as usize) {
                 return I32Read::Refused(Refusal {
-                    kind: over,
+                    kind: above_limit(body),
                     place: at,
                 });
             }
@@ -64,13 +79,13 @@ pub fn read_limited(bytes: &[u8], cursor: Cursor, limit: Limit, over: Kind) -> I
 }
 
 // Such a size, then as many bytes.
-pub fn read_sized(bytes: &[u8], cursor: Cursor, limit: Limit, over: Kind) -> TextRead
-    ensures { λ r. ⌜ toldText r ≡ sizedAt (kindNumber over) limit (now (bytes .entry)) (cursor .at) ⌝ }
+pub fn read_sized(bytes: &[u8], cursor: Cursor, limit: Limit, body: Body) -> TextRead
+    ensures { λ r. ⌜ toldText r ≡ sizedAt (overNumber body) limit (now (bytes .entry)) (cursor .at) ⌝ }
 {
-    match read_limited(bytes, cursor, limit, over) {
-        I32Read::Value(size, body) => {
-            let start = body.at;
-            match body.past(bytes, number::sign::bits32(size) as usize) {
+    match read_limited(bytes, cursor, limit, body) {
+        I32Read::Value(size, first) => {
+            let start = first.at;
+            match first.past(bytes, number::sign::bits32(size) as usize) {
                 Moved::To(next) => {
                     let end = next.at;
                     TextRead::Value(Span { start, end }, next)
@@ -87,7 +102,7 @@ pub fn read_bytes(bytes: &[u8], cursor: Cursor, config: TConfiguration) -> TextR
     ensures { λ r. ⌜ toldText r ≡ bytesAt (config .«max_string_size») (now (bytes .entry)) (cursor .at) ⌝ }
 {
     let limit = config.max_string_size;
-    read_sized(bytes, cursor, limit, Kind::StringLimit)
+    read_sized(bytes, cursor, limit, Body::Text)
 }
 
 // A string or a name, which must be UTF-8.

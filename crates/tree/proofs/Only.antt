@@ -272,8 +272,7 @@ module _ (c : TConfiguration) (s : List ℕ) where
       (tree-model t (f .mid) (w .end) (d - 1) sd (shapeOf (f .key)) (w .part) (w .fits))
       (cut-model x (w .end) (d - 1) sd (shapeOf (f .value)) n p (w .next))
 
-  -- the one answer, as the function computes it
-  pub answer-model : (at d sd : ℕ) (sh : Shape) (x : Outcome) → Answers c s at d sd sh x → skipAs c s d sd sh at ≡ x
+  answer-model : (at d sd : ℕ) (sh : Shape) (x : Outcome) → Answers c s at d sd sh x → skipAs c s d sd sh at ≡ x
   answer-model at d sd sh (ended e k) h = tree-model (h .tree) at e d sd sh (h .part) (h .fits) ∙ ap (ended e) (sym (h .counted))
   answer-model at d sd sh (cut-off n p k) h = cut-model (h .cut) at d sd sh n p (h .fault) ∙ ap (cut-off n p) (sym (h .counted))
 

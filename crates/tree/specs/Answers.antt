@@ -1,8 +1,9 @@
 -- What a skip answers: a tree where it accepts, and a tree that is cut off at the place where it refuses.
-use Prim.Native.Nat.{ℕ, _+_, _-_, _<_}
+use Prim.Native.Nat.{ℕ, _+_, _-_, _<_, _≤_}
 use mathlib.Core.Path.{_≡_}
 use mathlib.Core.Bool.{false}
 use mathlib.Core.List.{List}
+use lib.ListN.{length}
 use lib.Dec.{eqb, ltb}
 use lib.IntN.{ℤ, natAbs}
 use Rattle.wire.specs.Answer.{Answer, gives, refused, refuseIf, entry, within}
@@ -23,7 +24,7 @@ judged (gives v p) = gives tt p
 judged (refused n p) = refused n p
 
 -- What a value is refused by itself, before a value in it begins: "depth 0 is 10; Stop, Void and Utf7 are 12; a scalar or a UUID passes its
--- bytes; a string its length and body, no UTF-8 check; a struct does the struct begin; a container reads its header"
+-- bytes; a string its length and body, no UTF-8 check; a struct does the struct begin …; a container reads its header …"
 abbrev pub shapeOwn : TConfiguration → ℕ → Shape → List ℕ → ℕ → Answer Unit
 shapeOwn c sd (Sh.Fixed n) s at = within s at n
 shapeOwn c sd Sh.Text s at = judged (bytesAt (c .«max_string_size») s at)
@@ -155,6 +156,13 @@ skipEntry d sd s at = entry s at (refuseIf (ltb 127 d) 20 at (refuseIf (ltb 6553
 abbrev pub AfterEntry : Answer Unit → TConfiguration → List ℕ → ℕ → ℕ → ℕ → Shape → Outcome → Type 0
 AfterEntry (refused n p) c s at d sd sh x = x ≡ cut-off n p 0
 AfterEntry (gives u q) c s at d sd sh x = Answers c s at d sd sh x
+
+-- "a value of that type stands" at a place: a tree, "with the conditions of 2, 11 and 20" (11 is a struct's own, in `Fits`)
+pub record StandsHere (c : TConfiguration) (s : List ℕ) (at d sd : ℕ) (t : TType) (e n : ℕ) : Type 0 where
+  pub inside : at ≤ length s
+  pub depth : d ≤ 127
+  pub structs : sd ≤ 65535
+  pub stands : Stands c s at d sd (shapeOf t) e n
 
 -- what the skip of a type answers
 abbrev pub SkipAnswers : TConfiguration → List ℕ → ℕ → ℕ → ℕ → TType → Outcome → Type 0

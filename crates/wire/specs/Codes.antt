@@ -97,7 +97,7 @@ messages =
 abbrev pub messageOf : ℕ → Messaged
 messageOf b = getD messages b Message-of.Unknown
 
--- rule 9: the fewest bytes that a value of the type takes
+-- rule 9's least sizes, as the crate counts them
 abbrev pub leastSize : TType → ℕ
 leastSize T.Stop = 1
 leastSize T.Void = 1

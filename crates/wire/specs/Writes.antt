@@ -34,7 +34,7 @@ unfoldable pub answered : Answer (List ℕ) → Answer Unit
 answered (gives new next) = gives tt next
 answered (refused n p) = refused n p
 
--- "A refusal changes no lent byte": the buffer after a write
+-- the buffer after a write: a refusal "changes no lent byte"
 unfoldable pub left : Answer (List ℕ) → List ℕ → List ℕ
 left (gives new next) old = new
 left (refused n p) old = old

@@ -1,5 +1,3 @@
-pub mod Headers
-pub mod MessagesBack
 pub mod Outputs
 pub mod ReadsBack
 pub mod Whole

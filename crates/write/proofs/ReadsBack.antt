@@ -10,18 +10,14 @@ use borrow.Author.Tests.{ltb-false}
 use lib.Dec.{T, ltb, eqb}
 use lib.Ieee.{Float, binary64, fits, ofBits, toBits}
 use lib.Ieee.Bits.{ofBits-toBits, toBits-lt}
-use lib.IntN.{ℤ, pos}
+use lib.IntN.{ℤ}
 use lib.ListN.{length, take, length-take}
 use lib.Seq.{take-append-seam, drop-at}
 use mir.Syntax.{Width, w8, w16, w32, w64}
 use mir.Val.{SFits, bits, toZ, ofZ}
 use Rattle.wire.specs.Answer.{Answer, gives, andThen}
-use Rattle.wire.specs.Codes.{typeByte, isStop, asRead, leastSize}
 use Rattle.wire.specs.Writes.{laid, writeAt, putAt}
-use Rattle.wire.specs.declared.codes.TType.{TType}
-use Rattle.wire.specs.declared.codes.TType.the-variants as T
 use Rattle.wire.proofs.Answers.{passed}
-use Rattle.wire.proofs.RoundTrips.{type-written, type-read}
 use Rattle.wire.proofs.Writes.{length-laid}
 use Rattle.number.specs.BigEndian.{big, bytesOf}
 use Rattle.number.specs.Reads.{numberAt, byteAt, boolAt, i8At, i16At, i32At, i64At, doubleAt}
@@ -32,17 +28,12 @@ use Rattle.config.specs.declared.configuration.TConfiguration.{TConfiguration}
 use Rattle.text.specs.Texts.{span, sizedLayout, bytesIn, sizedAt, bytesAt, stringAt, uuidAt}
 use Rattle.text.specs.declared.Span.{Span}
 use Rattle.text.proofs.Texts as texts
-use Rattle.read.specs.Headers.{field, fieldAt, list, listAt, asSet, setAt, map, mapAt}
-use Rattle.read.specs.Layouts.{listLayout}
-use Rattle.read.proofs.Headers as headers
 use Rattle.tree.specs.Part.{Part}
-use Rattle.tree.specs.Tree.{Reads, TextFits, SizeFits}
+use Rattle.tree.specs.Tree.{TextFits}
 use Rattle.tree.proofs.Parts.{part-length, part-split}
-use Rattle.tree.proofs.Reading.{part-within, number-reads, sized-reads, field-reads, stop-reads, list-reads, map-reads}
-use Rattle.write.specs.Outputs.{boolByte, bytesOutput, namedOutput, fieldOutput, mapOutput}
-use Rattle.write.specs.declared.field.FieldId.the-variants as Id
-use Rattle.write.specs.declared.container.MapType.the-variants as Of-map
-use Rattle.write.proofs.Outputs.{Name, short, with-name, with-id, stop-alone, both-types}
+use Rattle.tree.proofs.Reading.{part-within, number-reads, sized-reads}
+use Rattle.write.specs.Outputs.{boolByte, bytesOutput, namedOutput}
+use Rattle.write.proofs.Outputs.{Name, short, with-name}
 
 -- bytes that were laid stand where they were laid
 pub laid-part : (bs out : List ℕ) (at : ℕ) → at + length bs ≤ length out → Part (laid bs out at) at (at + length bs) bs
@@ -66,13 +57,6 @@ stands output out at {bs} {new} {q} {next} e w =
     let buffer : new ≡ laid bs out at = cc (b .gave) in
     let place : next ≡ at + length bs = cc (b .gave) in
     rw (buffer, place) (laid-part bs out at room)
-
--- a type's byte is that of the type it is read as
-same-byte : (t : TType) → typeByte (asRead t) ≡ typeByte t
-same-byte t = type-read (typeByte t) (asRead t) (type-written t)
-
-reads-as : (t : TType) → Reads (asRead t)
-reads-as t = rw (same-byte t) (type-written t)
 
 -- a text or a UUID that was read, and that its bytes are those that were written
 pub record Found (s b : List ℕ) (read : Answer Span) (next : ℕ) : Type 0 where
@@ -157,34 +141,3 @@ module _ (out : List ℕ) (at : ℕ) {new : List ℕ} {next : ℕ} where
   pub string-back : (c : TConfiguration) (b : List ℕ) → TextFits c (length b) → Name b → gives new next ≡ writeAt (namedOutput b (sizedLayout b) at) out at
       → Found new b (stringAt (c .«max_string_size») new at) next
   string-back c b f n e = string-found c b f (stands _ out at (with-name (sizedLayout b) at n) e) n
-
-  -- headers: a type comes back as its byte reads
-  pub field-back : (t : TType) (id : ℤ) → SFits w16 id → isStop t ≡ false → gives new next ≡ writeAt (fieldOutput t (Id.Of id) at) out at
-      → gives (field (asRead t) id) next ≡ fieldAt new at
-  field-back t id f s e =
-      let p = stands _ out at (with-id t at refl) e in
-      let going : isStop (asRead t) ≡ false = rw (same-byte t) s in
-      ap (λ (z : ℤ). gives (field (asRead t) z) next) (sym (signed-written 2 w16 id refl f))
-      ∙ field-reads (asRead t) (bytesOf 2 (ofZ w16 id)) (reads-as t) going (length-bytesOf 2 (ofZ w16 id)) (rw (same-byte t) p)
-
-  -- "a Stop without an id with id 0": by the stop writer, and as a field that has none
-  pub stop-back : gives new next ≡ putAt (typeByte T.Stop ∷ []) out at → gives (field T.Stop (pos 0)) next ≡ fieldAt new at
-  stop-back e = stop-reads (stands _ out at refl e)
-
-  pub stop-field-back : gives new next ≡ writeAt (fieldOutput T.Stop Id.Absent at) out at → gives (field T.Stop (pos 0)) next ≡ fieldAt new at
-  stop-field-back e = stop-reads (stands _ out at (stop-alone T.Stop at refl refl) e)
-
-  pub list-back : (c : TConfiguration) (t : TType) (n : ℕ) → SizeFits c (leastSize (asRead t)) n
-      → gives new next ≡ putAt (listLayout t (ofZ w32 (pos n))) out at → gives (list (asRead t) (pos n)) next ≡ listAt c new at
-  list-back c t n f e = list-reads c (asRead t) n (reads-as t) f (rw (same-byte t) (stands _ out at refl e))
-
-  pub set-back : (c : TConfiguration) (t : TType) (n : ℕ) → SizeFits c (leastSize (asRead t)) n
-      → gives new next ≡ putAt (listLayout t (ofZ w32 (pos n))) out at → gives (asSet (list (asRead t) (pos n))) next ≡ setAt c new at
-  set-back c t n f e = headers.a-set c new at (list-back c t n f e)
-
-  pub map-back : (c : TConfiguration) (k v : TType) (n : ℕ) → SizeFits c (leastSize (asRead k) + leastSize (asRead v)) n
-      → gives new next ≡ writeAt (mapOutput (Of-map.Of k) (Of-map.Of v) (pos n) at) out at
-      → gives (map (asRead k) (asRead v) (pos n)) next ≡ mapAt c new at
-  map-back c k v n f e =
-      let p = stands _ out at (both-types (pos n) at (Of-map.Of v) refl refl) e in
-      map-reads c (asRead k) (asRead v) n (reads-as k) (reads-as v) f (rw (same-byte k, same-byte v) p)

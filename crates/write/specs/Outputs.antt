@@ -1,24 +1,13 @@
 -- The bytes that each writer puts down, or the fault of its own that keeps it from it. "Checks: 2, 20, 16, 17, 13, 11 or 14, 15": 2 and 15 are
 -- `writeAt`'s, 20, 11 and 14 those of struct begin and end, which put down nothing.
 use Prim.Native.Nat.{ℕ}
-use mathlib.Core.Bool.{Bool, true, false, not}
-use mathlib.Core.List.{List, [], _∷_}
+use mathlib.Core.Bool.{Bool, true, false}
+use mathlib.Core.List.{List}
 use lib.Dec.{ltb}
-use lib.IntN.{ℤ}
 use lib.ListN.{length}
-use mir.Syntax.{w16, w32}
-use mir.Val.{ofZ}
-use Rattle.wire.specs.Answer.{Answer, gives, refused, refuseIf}
-use Rattle.wire.specs.Codes.{typeByte, isStop}
-use Rattle.wire.specs.declared.codes.TType.{TType}
-use Rattle.number.specs.BigEndian.{bytesOf}
+use Rattle.wire.specs.Answer.{Answer, gives, refuseIf}
 use Rattle.utf8.specs.UpTo.{upTo}
 use Rattle.text.specs.Texts.{sizedLayout}
-use Rattle.read.specs.Layouts.{fieldLayout, mapLayout}
-use Rattle.write.specs.declared.field.FieldId.{FieldId}
-use Rattle.write.specs.declared.field.FieldId.the-variants as Id
-use Rattle.write.specs.declared.container.MapType.{MapType}
-use Rattle.write.specs.declared.container.MapType.the-variants as Of-map
 
 -- "A bool writes 0 or 1"
 abbrev pub boolByte : Bool → ℕ
@@ -39,14 +28,3 @@ ifName name at rest = unlessTooLong name at (refuseIf (ltb (upTo name) (length n
 -- bytes with a name among them: a string, or a message's header
 unfoldable pub namedOutput : List ℕ → List ℕ → ℕ → Answer (List ℕ)
 namedOutput name bs at = ifName name at (gives bs at)
-
--- "an absent id is 17 unless the type is Stop. A Stop with an id writes three bytes, as in the Rust; a Stop without one writes one"
-unfoldable pub fieldOutput : TType → FieldId → ℕ → Answer (List ℕ)
-fieldOutput t (Id.Of id) at = gives (fieldLayout t (bytesOf 2 (ofZ w16 id))) at
-fieldOutput t Id.Absent at = refuseIf (not (isStop t)) 17 at (gives (typeByte t ∷ []) at)
-
--- "field id or map type missing"
-unfoldable pub mapOutput : MapType → MapType → ℤ → ℕ → Answer (List ℕ)
-mapOutput Of-map.Absent value size at = refused 17 at
-mapOutput (Of-map.Of k) Of-map.Absent size at = refused 17 at
-mapOutput (Of-map.Of k) (Of-map.Of v) size at = gives (mapLayout k v (ofZ w32 size)) at

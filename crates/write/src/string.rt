@@ -37,7 +37,7 @@ pub fn write_bytes(out: &mut [u8], cursor: Cursor, b: &[u8]) -> Moved
 }
 
 // What comes before 15 where a name is written: 2, 16, 13.
-pub(crate) fn check_name(len: usize, cursor: Cursor, name: &[u8]) -> Moved
+pub fn check_name(len: usize, cursor: Cursor, name: &[u8]) -> Moved
     ensures { λ r. ⌜ toldMoved r ≡ nameChecked len (cursor .at) (now (name .entry)) ⌝ }
 {
     let at = cursor.at;

@@ -12,7 +12,5 @@ thrift-read-spec =
     (λ c κs. search needs)
     (λ c κs. search needs)
     (λ c κs. search needs)
-    (λ c κs. search needs)
-    (λ c κs. search needs)
     (λ c. search needs)
-    (λ c. let a = c .before .before .before .before .before .before .before .before .before .before .before .args in done _ _ _ (a .kept .now) (c .before .before .before .by-step .result) (c .before .before .keep .result) _ (c .before .before .before .before .before .before .before .before .if1 .left) (rw (c .before .before .before .before .read-step .ensures, c .before .before .before .before .before .before .asked-with .ensures, c .before .before .before .before .before .before .before .limits .ensures) at (c .before .before .before .by-step .ensures)) (c .before .before .keep .ensures)))
+    (λ c. let a = c .before .before .before .before .before .before .before .before .before .args in done _ _ _ (a .kept .now) (c .before .before .before .by-number .result) (c .before .before .keep .result) _ (c .before .before .before .before .before .before .if1 .left) (rw (c .before .before .before .before .before .asked-with .ensures) at (c .before .before .before .by-number .ensures)) (c .before .before .keep .ensures)))

@@ -12,7 +12,6 @@ thrift-write-spec =
     (λ c κs. search needs)
     (λ c κs. search needs)
     (λ c κs. search needs)
-    (λ c κs. search needs)
     (λ c. search needs)
     (λ c. search needs)
-    (λ c. let a = c .before .before .before .before .before .before .before .before .before .before .before .before .before .before .args in write-done _ (a .kept .now) (a .out .now) (c .before .before .before .before .before .before .by-step .result) (c .before .before .keep .result) _ _ (c .before .before .before .before .before .before .before .before .before .before .if1 .left) (rw (c .before .before .before .before .before .before .before .write-step .ensures, c .before .before .before .before .before .before .before .before .before .limit .ensures) at (c .before .before .before .before .before .before .by-step .ensures)) (c .before .before .keep .ensures)))
+    (λ c. let a = c .before .before .before .before .before .before .before .before .before .before .before .before .before .args in write-done _ (a .kept .now) (a .out .now) (c .before .before .before .before .before .by-number .result) (c .before .before .keep .result) _ _ (c .before .before .before .before .before .before .before .before .before .if1 .left) (rw (c .before .before .before .before .before .before .before .before .asked-with .ensures) at (c .before .before .before .before .before .by-number .ensures)) (c .before .before .keep .ensures)))

@@ -1,9 +1,11 @@
 -- Assumes nothing.
 use borrow.Author.Needs.{needs}
+use Prim.Native.Nat.{ℕ}
 use mathlib.Core.Path.{_≡_, sym, ap, _∙_}
 use lib.IntN.{natAbs}
 use mir.Syntax.{w32}
 use mir.Val.{toZ, ofZ}
+use Rattle.wire.specs.Answer.{refused}
 use Rattle.number.specs.Told.{toldI32}
 use Rattle.wire.proofs.Answers.{told-as}
 use Rattle.text.proofs.Texts.{size-bits, unlimited, too-long, limited}
@@ -28,7 +30,8 @@ read-limited-spec =
     (λ c κs. search needs)
     (λ c. search needs)
     (λ c κs. search needs)
-    (λ c. too-long _ _ _ _ (told-as toldI32 (c .before .before .before .before .size .given .1) (c .before .before .before .before .before .before .read-size .ensures)) (rw (len (c .before .before)) at (sym (c .before .exceeded-by .ensures) ∙ c .if1 .taken)))
+    (λ c κs. search needs)
+    (λ c. ap (λ (k : ℕ). refused k (c .before .before .before .before .before .before .before .before .before .args .cursor .at)) (c .above-limit .ensures) ∙ too-long _ _ _ _ (told-as toldI32 (c .before .before .before .before .before .size .given .1) (c .before .before .before .before .before .before .before .read-size .ensures)) (rw (len (c .before .before .before)) at (sym (c .before .before .exceeded-by .ensures) ∙ c .before .if1 .taken)))
     (λ c. search needs)
     (λ c. rw (same (c .before .before .before)) (limited _ _ _ _ (told-as toldI32 (c .before .before .before .before .size .given .1) (c .before .before .before .before .before .before .read-size .ensures)) (rw (len (c .before .before)) at (sym (c .before .exceeded-by .ensures) ∙ c .if1 .left))))
     (λ c. unlimited _ _ _ _ (told-as toldI32 (c .before .refusal .given .1) (c .before .before .before .read-size .ensures))))

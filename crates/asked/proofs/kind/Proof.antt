@@ -1,0 +1,18 @@
+-- Assumes nothing.
+use borrow.Author.Needs.{needs}
+use mathlib.Core.Path.{sym}
+use lib.ListN.{List·getD-eq-default}
+use Rattle.wire.proofs.Tables.{getD-within}
+use Rattle.asked.specs.Asked.{kinds}
+use Rattle.wire.specs.declared.codes.Typed.the-variants.{Unknown}
+use Rattle.asked.proofs.kind.Statement.{statement}
+use Rattle.asked.proofs.kind.Tie as tie
+
+pub kind-spec : {M : Type 1} → statement M
+kind-spec =
+    tie.close
+    (tie.spec
+    (λ c. search needs)
+    (λ c. search needs)
+    (λ c. getD-within kinds _ _ Unknown (c .before .if1 .taken))
+    (λ c. sym (List·getD-eq-default kinds Unknown (c .if1 .left))))

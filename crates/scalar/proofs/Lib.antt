@@ -1,0 +1,2 @@
+pub mod Scalars
+pub mod Settled

@@ -1,0 +1,4 @@
+pub mod Headers
+pub mod MessagesBack
+pub mod Outputs
+pub mod ReadsBack

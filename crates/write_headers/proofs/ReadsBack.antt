@@ -1,0 +1,67 @@
+-- Headers that were written read back, over any bytes before and after. Assumes nothing.
+use Prim.Native.Nat.{ℕ, _+_}
+use mathlib.Core.Path.{_≡_, refl, sym, ap, _∙_}
+use mathlib.Core.Bool.{false}
+use mathlib.Core.List.{List, [], _∷_}
+use lib.Dec.{T}
+use lib.IntN.{ℤ, pos}
+use mir.Syntax.{w16, w32}
+use mir.Val.{SFits, ofZ}
+use Rattle.wire.specs.Answer.{gives}
+use Rattle.wire.specs.Codes.{typeByte, isStop, asRead, leastSize}
+use Rattle.wire.specs.Writes.{writeAt, putAt}
+use Rattle.wire.specs.declared.codes.TType.{TType}
+use Rattle.wire.specs.declared.codes.TType.the-variants as T
+use Rattle.wire.proofs.RoundTrips.{type-written, type-read}
+use Rattle.number.specs.BigEndian.{bytesOf}
+use Rattle.number.proofs.Widths.{written, signed-written, length-bytesOf}
+use Rattle.config.specs.declared.configuration.TConfiguration.{TConfiguration}
+use Rattle.read.specs.Headers.{field, fieldAt, list, listAt, asSet, setAt, map, mapAt}
+use Rattle.read.specs.Layouts.{listLayout}
+use Rattle.read.proofs.Headers as headers
+use Rattle.write.proofs.ReadsBack.{stands}
+use Rattle.tree.specs.Tree.{Reads, SizeFits}
+use Rattle.tree.proofs.Reading.{field-reads, stop-reads, list-reads, map-reads}
+use Rattle.write_headers.specs.Outputs.{fieldOutput, mapOutput}
+use Rattle.write_headers.specs.declared.field.FieldId.the-variants as Id
+use Rattle.write_headers.specs.declared.container.MapType.the-variants as Of-map
+use Rattle.write_headers.proofs.Outputs.{with-id, stop-alone, both-types}
+
+-- a type's byte is that of the type it is read as
+same-byte : (t : TType) → typeByte (asRead t) ≡ typeByte t
+same-byte t = type-read (typeByte t) (asRead t) (type-written t)
+
+reads-as : (t : TType) → Reads (asRead t)
+reads-as t = rw (same-byte t) (type-written t)
+
+module _ (out : List ℕ) (at : ℕ) {new : List ℕ} {next : ℕ} where
+  -- headers: a type comes back as its byte reads
+  pub field-back : (t : TType) (id : ℤ) → SFits w16 id → isStop t ≡ false → gives new next ≡ writeAt (fieldOutput t (Id.Of id) at) out at
+      → gives (field (asRead t) id) next ≡ fieldAt new at
+  field-back t id f s e =
+      let p = stands _ out at (with-id t at refl) e in
+      let going : isStop (asRead t) ≡ false = rw (same-byte t) s in
+      ap (λ (z : ℤ). gives (field (asRead t) z) next) (sym (signed-written 2 w16 id refl f))
+      ∙ field-reads (asRead t) (bytesOf 2 (ofZ w16 id)) (reads-as t) going (length-bytesOf 2 (ofZ w16 id)) (rw (same-byte t) p)
+
+  -- "a Stop without an id with id 0": by the stop writer, and as a field that has none
+  pub stop-back : gives new next ≡ putAt (typeByte T.Stop ∷ []) out at → gives (field T.Stop (pos 0)) next ≡ fieldAt new at
+  stop-back e = stop-reads (stands _ out at refl e)
+
+  pub stop-field-back : gives new next ≡ writeAt (fieldOutput T.Stop Id.Absent at) out at → gives (field T.Stop (pos 0)) next ≡ fieldAt new at
+  stop-field-back e = stop-reads (stands _ out at (stop-alone T.Stop at refl refl) e)
+
+  pub list-back : (c : TConfiguration) (t : TType) (n : ℕ) → SizeFits c (leastSize (asRead t)) n
+      → gives new next ≡ putAt (listLayout t (ofZ w32 (pos n))) out at → gives (list (asRead t) (pos n)) next ≡ listAt c new at
+  list-back c t n f e = list-reads c (asRead t) n (reads-as t) f (rw (same-byte t) (stands _ out at refl e))
+
+  pub set-back : (c : TConfiguration) (t : TType) (n : ℕ) → SizeFits c (leastSize (asRead t)) n
+      → gives new next ≡ putAt (listLayout t (ofZ w32 (pos n))) out at → gives (asSet (list (asRead t) (pos n))) next ≡ setAt c new at
+  set-back c t n f e = headers.a-set c new at (list-back c t n f e)
+
+  pub map-back : (c : TConfiguration) (k v : TType) (n : ℕ) → SizeFits c (leastSize (asRead k) + leastSize (asRead v)) n
+      → gives new next ≡ writeAt (mapOutput (Of-map.Of k) (Of-map.Of v) (pos n) at) out at
+      → gives (map (asRead k) (asRead v) (pos n)) next ≡ mapAt c new at
+  map-back c k v n f e =
+      let p = stands _ out at (both-types (pos n) at (Of-map.Of v) refl refl) e in
+      map-reads c (asRead k) (asRead v) n (reads-as k) (reads-as v) f (rw (same-byte k, same-byte v) p)

@@ -1,0 +1,105 @@
+// A message's header: with a version (strict), or in the older layout that starts with the name.
+use wire::codes::TMessageType;
+use wire::cursor::Cursor;
+use wire::cursor::Moved;
+ghost use mathlib.Core.Bool.{true, false};
+ghost use mathlib.Core.Path.{_≡_};
+ghost use Prim.Native.Nat.{_+_, _≤_};
+ghost use lib.ListN.{length};
+ghost use mir.Syntax.{w32};
+ghost use mir.Val.{ofZ};
+ghost use Rattle.wire.specs.Answer.{stayAt};
+ghost use Rattle.wire.specs.Refusals.{toldMoved};
+ghost use Rattle.wire.specs.Writes.{Wrote, putAt, writeAt, inFront};
+ghost use Rattle.message.specs.Layouts.{messageLayout};
+ghost use Rattle.write.specs.Outputs.{namedOutput};
+
+// The version and the type in four bytes, the name, the sequence number.
+fn put_versioned(out: &mut [u8], name: &[u8], message_type: TMessageType, sequence: u32)
+    requires { ⌜ 12 + length (now name) ≤ length (now out) ⌝ }
+    ensures { λ _. ⌜ now (out .exit) ≡ inFront (messageLayout true (now (name .entry)) «message_type» sequence) (now (out .entry)) ⌝ }
+{
+    let kind = wire::codes::message_type_to_u8(message_type);
+    number::put::put32(out, 0x8001_0000 + kind as u32);
+    text::put::put_sized(&mut out[4..], name);
+    number::put::put32(&mut out[8 + name.len()..], sequence);
+}
+
+// The older layout: the name, the type, the sequence number.
+fn put_unversioned(out: &mut [u8], name: &[u8], message_type: TMessageType, sequence: u32)
+    requires { ⌜ 9 + length (now name) ≤ length (now out) ⌝ }
+    ensures { λ _. ⌜ now (out .exit) ≡ inFront (messageLayout false (now (name .entry)) «message_type» sequence) (now (out .entry)) ⌝ }
+{
+    text::put::put_sized(out, name);
+    let kind = wire::codes::message_type_to_u8(message_type);
+    number::put::put8(&mut out[4 + name.len()..], kind);
+    number::put::put32(&mut out[5 + name.len()..], sequence);
+}
+
+fn write_versioned(
+    out: &mut [u8],
+    cursor: Cursor,
+    name: &[u8],
+    message_type: TMessageType,
+    sequence: u32,
+) -> Moved
+    requires { ⌜ length (now name) ≤ 2147483647 ⌝ }
+    ensures { λ r. ⌜ Wrote r (now (out .exit)) (now (out .entry)) (putAt (messageLayout true (now (name .entry)) «message_type» sequence) (now (out .entry)) (cursor .at)) ⌝ }
+{
+    let at = cursor.at;
+    match cursor.room(out.len(), 12 + name.len()) {
+        Moved::To(next) => {
+            put_versioned(&mut out[at..], name, message_type, sequence);
+            Moved::To(next)
+        }
+        Moved::Refused(refusal) => Moved::Refused(refusal),
+    }
+}
+
+fn write_unversioned(
+    out: &mut [u8],
+    cursor: Cursor,
+    name: &[u8],
+    message_type: TMessageType,
+    sequence: u32,
+) -> Moved
+    requires { ⌜ length (now name) ≤ 2147483647 ⌝ }
+    ensures { λ r. ⌜ Wrote r (now (out .exit)) (now (out .entry)) (putAt (messageLayout false (now (name .entry)) «message_type» sequence) (now (out .entry)) (cursor .at)) ⌝ }
+{
+    let at = cursor.at;
+    match cursor.room(out.len(), 9 + name.len()) {
+        Moved::To(next) => {
+            put_unversioned(&mut out[at..], name, message_type, sequence);
+            Moved::To(next)
+        }
+        Moved::Refused(refusal) => Moved::Refused(refusal),
+    }
+}
+
+pub fn write_message_begin(
+    out: &mut [u8],
+    cursor: Cursor,
+    strict: bool,
+    name: &[u8],
+    message_type: TMessageType,
+    sequence_number: i32,
+) -> Moved
+    ensures { λ r. ⌜ Wrote r (now (out .exit)) (now (out .entry)) (writeAt (namedOutput (now (name .entry)) (messageLayout strict (now (name .entry)) «message_type» (ofZ w32 «sequence_number»)) (cursor .at)) (now (out .entry)) (cursor .at)) ⌝ }
+{
+    match write::string::check_name(out.len(), cursor, name) {
+        Moved::To(_) => {
+            let sequence = number::sign::bits32(sequence_number);
+            if strict {
+                return write_versioned(out, cursor, name, message_type, sequence);
+            }
+            write_unversioned(out, cursor, name, message_type, sequence)
+        }
+        Moved::Refused(refusal) => Moved::Refused(refusal),
+    }
+}
+
+pub fn write_message_end(out: &[u8], cursor: Cursor) -> Moved
+    ensures { λ r. ⌜ toldMoved r ≡ stayAt (now (out .entry)) (cursor .at) ⌝ }
+{
+    cursor.stay(out)
+}
