@@ -2,8 +2,8 @@
 
 use std::fmt::Write as _;
 
-/// Bytes that a report shows of a longer input.
-const SHOWN: usize = 1_024;
+/// Bytes that a report shows of a longer input: more than any but the frames at their limit have.
+const SHOWN: usize = 65_536;
 
 /// All the bytes.
 pub fn whole(bytes: &[u8]) -> String {

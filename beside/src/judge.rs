@@ -1,8 +1,10 @@
 //! Holds the crate's answer against each port's.
 
+mod reports;
+mod series;
+
 use turmyshge::steps::{Answer, ReadCall, ReadStep, TType, WriteCall};
 
-use crate::hex;
 use crate::known::{self, Known};
 use crate::port::Port;
 use crate::published::{self, Theirs};
@@ -75,14 +77,17 @@ impl<'a> Judge<'a> {
 
     fn judge_read(&mut self, call: &ReadCall<'_>, theirs: &Theirs) {
         for port in self.ports {
-            let Some(ours) = port.read(call) else {
-                continue;
-            };
-            self.tally.comparisons += 1;
-            if *theirs != Theirs::Answered(ours) {
-                let known = known::of_read(call, theirs, &ours);
-                self.note(known, || report_read(call, theirs, *port, &ours));
+            if let Some(ours) = port.read(call) {
+                self.hold_read(call, theirs, *port, &ours);
             }
+        }
+    }
+
+    fn hold_read(&mut self, call: &ReadCall<'_>, theirs: &Theirs, port: &dyn Port, ours: &Answer) {
+        self.tally.comparisons += 1;
+        if !theirs.is(ours) {
+            let known = known::of_read(call, theirs, ours);
+            self.note(known, || reports::of_read(call, theirs, port.name(), ours));
         }
     }
 
@@ -93,12 +98,13 @@ impl<'a> Judge<'a> {
             return;
         };
         self.tally.comparisons += 1;
-        let report = |what| report_write(call, length, what, made, port, &ours, &out);
+        let report = |what| reports::of_write(call, length, what, made, port, &ours, &out);
         let before = untouched(length);
-        if ours.refusal.is_some() && out != before {
-            return self.note(None, || report("a refused write changed the buffer"));
+        let wrote_nothing = ours.refusal.is_some() || ours.place == call.place;
+        if wrote_nothing && out != before {
+            return self.note(None, || report("a write of no byte changed the buffer"));
         }
-        if made.theirs != Theirs::Answered(ours) {
+        if !made.theirs.is(&ours) {
             let known = known::of_write(call, &made.theirs, &ours);
             return self.note(known, || report("the answers differ"));
         }
@@ -118,55 +124,12 @@ struct Made {
     out: Vec<u8>,
 }
 
-fn report_read(call: &ReadCall<'_>, theirs: &Theirs, port: &dyn Port, ours: &Answer) -> String {
-    format!(
-        "read {:?} of {} from {} (strict {}, type {:?}, depth {}, struct depth {}, {:?})\n  crate: {}\n  {}: {ours}",
-        call.step,
-        hex::cut(call.bytes),
-        call.place,
-        call.strict,
-        call.kind,
-        call.depth,
-        call.struct_depth,
-        call.limits,
-        said(theirs),
-        port.name(),
-    )
-}
-
-fn report_write(
-    call: &WriteCall<'_>,
-    length: usize,
-    what: &str,
-    made: &Made,
-    port: &dyn Port,
-    ours: &Answer,
-    out: &[u8],
-) -> String {
-    format!(
-        "write {:?} at {} of {length} (strict {}, types {} and {}, {:?}, number {:x}, text {}, struct depth {} of {:?}): {what}\n  \
-         crate: {}, {}\n  {}: {ours}, {}",
-        call.step,
-        call.place,
-        call.strict,
-        call.kind,
-        call.other,
-        call.absent,
-        call.number,
-        hex::cut(call.text),
-        call.struct_depth,
-        call.structs,
-        said(&made.theirs),
-        hex::cut(&made.out),
-        port.name(),
-        hex::cut(out),
-    )
-}
-
-fn said(theirs: &Theirs) -> String {
-    match theirs {
-        Theirs::Answered(answer) => answer.to_string(),
-        other => format!("{other:?}"),
+impl Made {
+    fn copy(theirs: &Theirs, out: &[u8]) -> Made {
+        Made {
+            theirs: theirs.clone(),
+            out: out.to_vec(),
+        }
     }
 }
 
@@ -202,7 +165,7 @@ impl Visitor for Judge<'_> {
                 continue;
             };
             self.tally.comparisons += 1;
-            if theirs != Theirs::Answered(ours) {
+            if !theirs.is(&ours) {
                 let known = known::of_read(&call, &theirs, &ours).or_else(|| {
                     kind.is_none()
                         .then(|| known::of_unknown_type(place, &ours))?
@@ -210,11 +173,19 @@ impl Visitor for Judge<'_> {
                 self.note(known, || {
                     format!(
                         "by type byte {type_byte:02x}: {}",
-                        report_read(&call, &theirs, *port, &ours)
+                        reports::of_read(&call, &theirs, port.name(), &ours)
                     )
                 });
             }
         }
+    }
+
+    fn reads(&mut self, calls: &[ReadCall<'_>]) {
+        self.judge_reads(calls);
+    }
+
+    fn writes(&mut self, calls: &[WriteCall<'_>], length: usize) {
+        self.judge_writes(calls, length);
     }
 
     fn expect_read(&mut self, call: &ReadCall<'_>, expected: Answer) {
@@ -223,7 +194,7 @@ impl Visitor for Judge<'_> {
         let theirs = published::read(call);
         if theirs != rules {
             self.note(None, || {
-                format!("the crate on a written case: {call:?}: {}", said(&theirs))
+                reports::of_read(call, &theirs, "the rules", &expected)
             });
         }
     }

@@ -6,7 +6,7 @@
 use std::collections::BTreeMap;
 
 use turmyshge::steps::{Answer, Limits, ReadCall, ReadStep, WriteCall, WriteStep};
-use turmyshge::Refusal;
+use turmyshge::Kind;
 
 use crate::hex;
 use crate::plain::Plain;
@@ -23,7 +23,7 @@ const FAR: usize = 32;
 const EACH: usize = 3;
 
 /// A way of answering: step, message or type asked for, refusal, bytes passed or written.
-type Way = (bool, u8, u8, Option<Refusal>, usize);
+type Way = (bool, u8, u8, Option<Kind>, usize);
 
 /// Keeps lines, a few for each way of answering, by fair draw from a fixed seed.
 pub struct Keeper {
@@ -73,7 +73,7 @@ impl Visitor for Keeper {
             ReadStep::Skip | ReadStep::Scalar => call.kind as u8,
             ReadStep::MessageBegin => u8::from(call.strict),
             // judged by its text: each range of first bytes is kept
-            ReadStep::String if matches!(answer.refusal, None | Some(Refusal::NotUtf8)) => {
+            ReadStep::String if matches!(answer.refusal, None | Some(Kind::NotUtf8)) => {
                 let lead = call.bytes.get(call.place + 4);
                 lead.map_or(0, |lead| lead >> 3)
             }
@@ -159,7 +159,11 @@ fn write_line(call: &WriteCall<'_>, length: usize, answer: &Answer, written: &[u
         0,
     ];
     let (text, written) = (bytes_or_dash(call.text), bytes_or_dash(written));
-    counted(format!("w {} {} {text} {written}", told(answer), words(&asked)))
+    counted(format!(
+        "w {} {} {text} {written}",
+        told(answer),
+        words(&asked)
+    ))
 }
 
 /// The line behind its own length in four digits, the line's end counted: so it can be read without a search.
@@ -178,7 +182,7 @@ fn words(numbers: &[usize]) -> String {
 }
 
 fn number(answer: &Answer) -> u8 {
-    answer.refusal.map_or(0, Refusal::number)
+    answer.refusal.map_or(0, Kind::number)
 }
 
 fn limit(limit: Option<usize>) -> usize {

@@ -2,10 +2,11 @@
 //! have answered; anything else fails the run. `docs/DIFFERENCES.md` gives the reasons.
 
 use turmyshge::steps::{Answer, Limits, ReadCall, ReadStep, TType, WriteCall, WriteStep};
-use turmyshge::Refusal;
+use turmyshge::Kind;
 
-use crate::plain::NAN;
-use crate::published::Theirs;
+use crate::plain::{Plain, NAN};
+use crate::port::Port;
+use crate::published::{self, Theirs};
 
 macro_rules! known {
     ($($name:ident, $words:literal;)*) => {
@@ -51,7 +52,7 @@ known! {
 
 const MOST_STRUCTS: usize = 65_535;
 
-fn is(ours: &Answer, refusal: Refusal, place: usize) -> bool {
+fn is(ours: &Answer, refusal: Kind, place: usize) -> bool {
     *ours == Answer::refused(refusal, place)
 }
 
@@ -74,19 +75,19 @@ fn takes_structs(step: ReadStep) -> bool {
 fn read_without_call(call: &ReadCall<'_>, ours: &Answer) -> Option<Known> {
     let at = call.place;
     if at > call.bytes.len() {
-        return is(ours, Refusal::StartBeyond, at).then_some(Known::StartBeyond);
+        return is(ours, Kind::StartBeyond, at).then_some(Known::StartBeyond);
     }
     if call.step == ReadStep::Skip && call.depth > 127 {
-        return is(ours, Refusal::DepthBeyond, at).then_some(Known::SkipDepthBeyond);
+        return is(ours, Kind::DepthBeyond, at).then_some(Known::SkipDepthBeyond);
     }
     if takes_structs(call.step) && call.struct_depth > MOST_STRUCTS {
-        return is(ours, Refusal::DepthBeyond, at).then_some(Known::StructDepthBeyond);
+        return is(ours, Kind::DepthBeyond, at).then_some(Known::StructDepthBeyond);
     }
     let beyond_limit = call.limits.structs.is_some_and(|l| call.struct_depth > l);
     match call.step {
-        ReadStep::Scalar => is(ours, Refusal::WrongType, at).then_some(Known::NoScalarKind),
+        ReadStep::Scalar => is(ours, Kind::WrongType, at).then_some(Known::NoScalarKind),
         ReadStep::StructBegin if beyond_limit => {
-            is(ours, Refusal::StructDepth, at).then_some(Known::DepthAboveLimit)
+            is(ours, Kind::StructDepth, at).then_some(Known::DepthAboveLimit)
         }
         ReadStep::StructEnd if beyond_limit => {
             (*ours == depth_answer(at, call.struct_depth - 1)).then_some(Known::DepthAboveLimit)
@@ -107,19 +108,28 @@ fn read_otherwise(call: &ReadCall<'_>, theirs: &Answer, ours: &Answer) -> Option
             struct_step(begin, call.struct_depth, at, theirs, ours)
         }
         ReadStep::Skip if call.struct_depth > MOST_STRUCTS => {
-            is(ours, Refusal::DepthBeyond, at).then_some(Known::StructDepthBeyond)
+            is(ours, Kind::DepthBeyond, at).then_some(Known::StructDepthBeyond)
         }
-        ReadStep::Skip => {
-            let near_cap = call.struct_depth + 127 >= MOST_STRUCTS;
-            let uncapped = call.limits.structs.is_none_or(|l| l > MOST_STRUCTS);
-            let capped = ours.refusal == Some(Refusal::StructDepth);
-            (near_cap && uncapped && capped).then_some(Known::StructCap)
-        }
+        ReadStep::Skip => struct_cap(call, ours),
         ReadStep::Double => nan_read(theirs, ours, 0),
         ReadStep::Scalar if call.kind == TType::Double => nan_read(theirs, ours, 1),
         ReadStep::Frame => frame(call, theirs, ours),
         _ => None,
     }
+}
+
+/// A skip that reaches the most structs: what the crate itself answers where that is its limit.
+fn struct_cap(call: &ReadCall<'_>, ours: &Answer) -> Option<Known> {
+    let uncapped = call.limits.structs.is_none_or(|l| l > MOST_STRUCTS);
+    if !uncapped || ours.refusal != Some(Kind::StructDepth) {
+        return None;
+    }
+    let limits = Limits {
+        structs: Some(MOST_STRUCTS),
+        ..call.limits
+    };
+    let capped = published::read(&call.under(limits));
+    capped.is(ours).then_some(Known::StructCap)
 }
 
 /// A struct's begin or end, read or written.
@@ -139,15 +149,15 @@ fn struct_step(
         },
     );
     if depth > MOST_STRUCTS {
-        return is(ours, Refusal::DepthBeyond, at).then_some(Known::StructDepthBeyond);
+        return is(ours, Kind::DepthBeyond, at).then_some(Known::StructDepthBeyond);
     }
     if *theirs != went_on {
         return None;
     }
     if begin && depth == MOST_STRUCTS {
-        return is(ours, Refusal::StructDepth, at).then_some(Known::StructCap);
+        return is(ours, Kind::StructDepth, at).then_some(Known::StructCap);
     }
-    let none_open = !begin && depth == 0 && is(ours, Refusal::NoStructOpen, at);
+    let none_open = !begin && depth == 0 && is(ours, Kind::NoStructOpen, at);
     none_open.then_some(Known::StructEndWithNoneOpen)
 }
 
@@ -162,11 +172,13 @@ fn nan_read(theirs: &Answer, ours: &Answer, index: usize) -> Option<Known> {
 fn frame(call: &ReadCall<'_>, theirs: &Answer, ours: &Answer) -> Option<Known> {
     let at = call.place;
     if at == call.bytes.len() {
-        let end = is(theirs, Refusal::ShortInput, at) && *ours == Answer::accepted(at, [0; 4]);
+        let end = is(theirs, Kind::ShortInput, at) && *ours == Answer::accepted(at, [0; 4]);
         return end.then_some(Known::FrameEnd);
     }
-    let limit_matters = is(theirs, Refusal::FrameLimit, at) != is(ours, Refusal::FrameLimit, at);
-    (call.limits.frame != Limits::DEFAULT.frame && limit_matters).then_some(Known::FramedLimits)
+    let limit_matters = is(theirs, Kind::FrameLimit, at) != is(ours, Kind::FrameLimit, at);
+    let by_the_rules = Plain.read(call) == Some(*ours);
+    (call.limits.frame != Limits::DEFAULT.frame && limit_matters && by_the_rules)
+        .then_some(Known::FramedLimits)
 }
 
 /// The difference that explains two unlike answers to a write.
@@ -175,7 +187,7 @@ pub fn of_write(call: &WriteCall<'_>, theirs: &Theirs, ours: &Answer) -> Option<
     match theirs {
         Theirs::NoCall => write_without_call(call, ours),
         Theirs::Panicked => {
-            let missing = call.step == WriteStep::MapBegin && is(ours, Refusal::Missing, at);
+            let missing = call.step == WriteStep::MapBegin && is(ours, Kind::Missing, at);
             missing.then_some(Known::MapTypeMissing)
         }
         Theirs::Answered(answer) => write_otherwise(call, answer, ours),
@@ -193,21 +205,19 @@ fn write_without_call(call: &WriteCall<'_>, ours: &Answer) -> Option<Known> {
         return ended.then_some(Known::DepthAboveLimit);
     };
     match (refusal, call.step) {
-        (Refusal::StartBeyond, _) => {
-            is(ours, Refusal::StartBeyond, at).then_some(Known::StartBeyond)
+        (Kind::StartBeyond, _) => is(ours, Kind::StartBeyond, at).then_some(Known::StartBeyond),
+        (Kind::DepthBeyond, WriteStep::StructBegin | WriteStep::StructEnd) => {
+            is(ours, Kind::DepthBeyond, at).then_some(Known::StructDepthBeyond)
         }
-        (Refusal::DepthBeyond, WriteStep::StructBegin | WriteStep::StructEnd) => {
-            is(ours, Refusal::DepthBeyond, at).then_some(Known::StructDepthBeyond)
+        (Kind::StructDepth, WriteStep::StructBegin) => {
+            is(ours, Kind::StructDepth, at).then_some(Known::DepthAboveLimit)
         }
-        (Refusal::StructDepth, WriteStep::StructBegin) => {
-            is(ours, Refusal::StructDepth, at).then_some(Known::DepthAboveLimit)
+        (Kind::TooLong, _) => is(ours, Kind::TooLong, at).then_some(Known::LengthWraps),
+        (Kind::NotUtf8, WriteStep::MessageBegin | WriteStep::String) => {
+            is(ours, Kind::NotUtf8, 0).then_some(Known::TextNotUtf8)
         }
-        (Refusal::TooLong, _) => is(ours, Refusal::TooLong, at).then_some(Known::LengthWraps),
-        (Refusal::NotUtf8, WriteStep::MessageBegin | WriteStep::String) => {
-            is(ours, Refusal::NotUtf8, 0).then_some(Known::TextNotUtf8)
-        }
-        (Refusal::OutputFull, WriteStep::Frame) => {
-            is(ours, Refusal::OutputFull, at).then_some(Known::FramedWriterFull)
+        (Kind::OutputFull, WriteStep::Frame) => {
+            is(ours, Kind::OutputFull, at).then_some(Known::FramedWriterFull)
         }
         _ => None,
     }
@@ -222,12 +232,12 @@ fn write_otherwise(call: &WriteCall<'_>, theirs: &Answer, ours: &Answer) -> Opti
         }
         WriteStep::MapBegin => {
             let room_first = call.absent.second
-                && is(theirs, Refusal::OutputFull, at)
-                && is(ours, Refusal::Missing, at);
+                && is(theirs, Kind::OutputFull, at)
+                && is(ours, Kind::Missing, at);
             room_first.then_some(Known::MapTypeMissing)
         }
         _ => {
-            let wraps = call.text.len() > i32::MAX as usize && is(ours, Refusal::TooLong, at);
+            let wraps = call.text.len() > i32::MAX as usize && is(ours, Kind::TooLong, at);
             wraps.then_some(Known::LengthWraps)
         }
     }
@@ -245,5 +255,5 @@ pub fn of_bytes(call: &WriteCall<'_>, theirs: &[u8], ours: &[u8]) -> Option<Know
 
 /// The difference that explains an answer to a skip by a byte that is no type's.
 pub fn of_unknown_type(place: usize, ours: &Answer) -> Option<Known> {
-    is(ours, Refusal::UnknownType, place).then_some(Known::UnknownTypeAtHost)
+    is(ours, Kind::UnknownType, place).then_some(Known::UnknownTypeAtHost)
 }

@@ -17,5 +17,6 @@ pub mod port;
 pub mod published;
 pub mod rng;
 pub mod shares;
+mod state;
 pub mod visitor;
 pub mod wrong;

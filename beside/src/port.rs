@@ -1,7 +1,7 @@
 //! The port's calls, by whichever archive offers them.
 
 use turmyshge::steps::{Answer, Limits, ReadCall, ReadStep, TType, WriteCall};
-use turmyshge::Refusal;
+use turmyshge::Kind;
 
 /// Something that claims to follow the rules. A call that it does not offer is answered by none.
 pub trait Port: Sync {
@@ -45,13 +45,13 @@ impl Port for Host {
     fn skip(&self, bytes: &[u8], place: usize, depth: usize, type_byte: u8) -> Option<Answer> {
         Some(match turmyshge::skip(bytes, place, depth, type_byte) {
             Ok(passed) => Answer::accepted(passed.end, [passed.count as u64, 0, 0, 0]),
-            Err(refused) => skip_refused(refused.refusal, refused.place, refused.count as u64),
+            Err(refused) => skip_refused(refused.kind, refused.place, refused.count as u64),
         })
     }
 }
 
 /// A refused skip's answer: its first value is the count.
-pub fn skip_refused(refusal: Refusal, place: usize, count: u64) -> Answer {
+pub fn skip_refused(refusal: Kind, place: usize, count: u64) -> Answer {
     Answer {
         values: [count, 0, 0, 0],
         ..Answer::refused(refusal, place)

@@ -13,6 +13,13 @@ pub trait Visitor {
     /// A skip by the type's byte, under the default limits.
     fn skip(&mut self, bytes: &[u8], place: usize, depth: usize, type_byte: u8);
 
+    /// Reads by one reader, each from where the one before it ended. The last may be refused, none before it.
+    fn reads(&mut self, _calls: &[ReadCall<'_>]) {}
+
+    /// Writes by one writer into a buffer of `length` bytes, each from where the one before it ended, until one is
+    /// refused.
+    fn writes(&mut self, _calls: &[WriteCall<'_>], _length: usize) {}
+
     /// A read whose answer is written down in the rules.
     fn expect_read(&mut self, call: &ReadCall<'_>, _expected: Answer) {
         self.read(call);

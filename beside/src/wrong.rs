@@ -3,9 +3,10 @@
 use std::sync::atomic::{AtomicU64, Ordering};
 
 use turmyshge::steps::{Answer, ReadCall, ReadStep, WriteCall};
-use turmyshge::Refusal;
+use turmyshge::Kind;
 
 use crate::inputs::{Amount, Share, SECTIONS};
+use crate::judge::Tally;
 use crate::plain::Plain;
 use crate::port::Port;
 use crate::shares;
@@ -62,8 +63,8 @@ impl Faulty {
     }
 }
 
-fn another(refusal: Refusal) -> Refusal {
-    Refusal::ALL[usize::from(refusal.number()) % Refusal::ALL.len()]
+fn another(refusal: Kind) -> Kind {
+    Kind::ALL[usize::from(refusal.number()) % Kind::ALL.len()]
 }
 
 impl Port for Faulty {
@@ -82,7 +83,7 @@ impl Port for Faulty {
         if matches!(self.fault, Fault::ByteTooMany) && room_left && self.now() {
             out[answer.place] ^= 1;
         }
-        Some(answer)
+        Some(self.spoilt(answer, false))
     }
 
     fn skip(&self, _: &[u8], _: usize, _: usize, _: u8) -> Option<Answer> {
@@ -90,28 +91,39 @@ impl Port for Faulty {
     }
 }
 
-/// Shows the smaller sections to each faulty port, and says for each whether it was caught.
-pub fn all_caught() -> bool {
+/// Shows the smaller sections to each faulty port, and says for each whether it was caught; if wanted, in the words of
+/// a report, as a run prints it.
+pub fn all_caught(in_words: bool) -> bool {
+    FAULTS.iter().fold(true, |all, (fault, words)| {
+        let tally = tried(*fault);
+        let caught = tally.differences > 0;
+        let verdict = if caught { "caught" } else { "NOT CAUGHT" };
+        println!("tried: {words}: {verdict} {} times", tally.differences);
+        if in_words {
+            let first = tally.reports.first();
+            println!("DIFFERENCE: {}", first.map_or("none", String::as_str));
+        }
+        all && caught
+    })
+}
+
+/// What comes of a faulty port on the sections that are little, and a few random values.
+fn tried(fault: Fault) -> Tally {
     let share = Share {
         index: 0,
         of: 1,
         rounds: 50,
         seed: 1,
     };
-    let mut caught_all = true;
-    for (fault, words) in FAULTS {
-        let faulty: &'static dyn Port = Box::leak(Box::new(Faulty {
-            fault,
-            answers: AtomicU64::new(0),
-        }));
-        let caught: u64 = SECTIONS
-            .iter()
-            .filter(|section| section.amount == Amount::Little)
-            .map(|section| shares::run(section, 1, share, &[faulty]).differences)
-            .sum();
-        let verdict = if caught > 0 { "caught" } else { "NOT CAUGHT" };
-        println!("tried: {words}: {verdict} {caught} times");
-        caught_all &= caught > 0;
+    let faulty: &'static dyn Port = Box::leak(Box::new(Faulty {
+        fault,
+        answers: AtomicU64::new(0),
+    }));
+    let mut sum = Tally::default();
+    for section in &SECTIONS {
+        if matches!(section.amount, Amount::Little | Amount::Asked) {
+            sum.add(shares::run(section, 1, share, &[faulty]));
+        }
     }
-    caught_all
+    sum
 }

@@ -17,7 +17,7 @@
 //!
 //! // a text of four bytes with one missing
 //! let refused = skip(&[0, 0, 0, 4, b'a', b'b', b'c'], 0, DEFAULT_SKIP_DEPTH, 0x0b).unwrap_err();
-//! assert_eq!((refused.refusal.number(), refused.place), (1, 4));
+//! assert_eq!((refused.kind.number(), refused.place), (1, 4));
 //! println!("{refused}");
 //! ```
 //!
@@ -32,5 +32,5 @@ mod refusal;
 mod skip;
 pub mod steps;
 
-pub use refusal::Refusal;
-pub use skip::{skip, Refused, Skipped, DEFAULT_SKIP_DEPTH};
+pub use refusal::Kind;
+pub use skip::{skip, Refusal, Skipped, DEFAULT_SKIP_DEPTH};

@@ -7,33 +7,33 @@ macro_rules! refusals {
         /// Why a call was refused. The numbers are the same in every language that the codec is called from.
         ///
         /// ```
-        /// use turmyshge::Refusal;
+        /// use turmyshge::Kind;
         ///
-        /// assert_eq!(Refusal::from_number(7), Some(Refusal::StringLimit));
-        /// assert_eq!(Refusal::StringLimit.to_string(), "refusal 7: text above the string limit");
-        /// assert_eq!(Refusal::StringLimit.points_at(), "the length's first byte");
+        /// assert_eq!(Kind::from_number(7), Some(Kind::StringLimit));
+        /// assert_eq!(Kind::StringLimit.to_string(), "refusal 7: text above the string limit");
+        /// assert_eq!(Kind::StringLimit.points_at(), "the length's first byte");
         /// ```
         #[derive(Clone, Copy, Debug, PartialEq, Eq, PartialOrd, Ord, Hash)]
         #[repr(u8)]
-        pub enum Refusal {
+        pub enum Kind {
             $(#[doc = concat!($number, ", ", $words, ". Its place: ", $place, ".")] $name = $number,)*
         }
 
-        impl Refusal {
+        impl Kind {
             /// Every refusal, from 1 to 20.
-            pub const ALL: [Refusal; 20] = [$(Refusal::$name,)*];
+            pub const ALL: [Kind; 20] = [$(Kind::$name,)*];
 
             /// What it means, in words.
             pub fn meaning(self) -> &'static str {
                 match self {
-                    $(Refusal::$name => $words,)*
+                    $(Kind::$name => $words,)*
                 }
             }
 
             /// What stands at the place that comes with it, in words.
             pub fn points_at(self) -> &'static str {
                 match self {
-                    $(Refusal::$name => $place,)*
+                    $(Kind::$name => $place,)*
                 }
             }
         }
@@ -63,21 +63,21 @@ refusals! {
     DepthBeyond = 20, "depth above 127, or struct depth above 65,535", "the start";
 }
 
-impl Refusal {
+impl Kind {
     /// Its number, 1 to 20.
     pub fn number(self) -> u8 {
         self as u8
     }
 
     /// The refusal with this number, if there is one.
-    pub fn from_number(number: u64) -> Option<Refusal> {
+    pub fn from_number(number: u64) -> Option<Kind> {
         let before = usize::try_from(number.checked_sub(1)?).ok()?;
-        Refusal::ALL.get(before).copied()
+        Kind::ALL.get(before).copied()
     }
 
     /// The refusal that an archive's record tells, or none for 0. A number that is neither is no acceptance.
-    pub(crate) fn in_record(number: u64) -> Option<Refusal> {
-        let refusal = Refusal::from_number(number);
+    pub(crate) fn in_record(number: u64) -> Option<Kind> {
+        let refusal = Kind::from_number(number);
         assert!(
             refusal.is_some() || number == 0,
             "the archive is another one: it tells refusal {number}"
@@ -86,7 +86,7 @@ impl Refusal {
     }
 }
 
-impl fmt::Display for Refusal {
+impl fmt::Display for Kind {
     fn fmt(&self, f: &mut fmt::Formatter<'_>) -> fmt::Result {
         write!(f, "refusal {}: {}", self.number(), self.meaning())
     }
@@ -94,24 +94,24 @@ impl fmt::Display for Refusal {
 
 #[cfg(test)]
 mod tests {
-    use super::Refusal;
+    use super::Kind;
 
     #[test]
     fn numbers_go_from_1_to_20_and_back() {
-        for (before, refusal) in Refusal::ALL.into_iter().enumerate() {
+        for (before, refusal) in Kind::ALL.into_iter().enumerate() {
             assert_eq!(usize::from(refusal.number()), before + 1);
             assert_eq!(
-                Refusal::from_number(u64::from(refusal.number())),
+                Kind::from_number(u64::from(refusal.number())),
                 Some(refusal)
             );
         }
-        assert_eq!(Refusal::from_number(0), None);
-        assert_eq!(Refusal::from_number(21), None);
+        assert_eq!(Kind::from_number(0), None);
+        assert_eq!(Kind::from_number(21), None);
     }
 
     #[test]
     #[should_panic(expected = "it tells refusal 21")]
     fn an_unknown_number_is_no_acceptance() {
-        Refusal::in_record(21);
+        Kind::in_record(21);
     }
 }

@@ -3,7 +3,7 @@
 use std::collections::BTreeSet;
 use std::error::Error;
 
-use turmyshge::{skip, Refusal, Refused, Skipped, DEFAULT_SKIP_DEPTH};
+use turmyshge::{skip, Kind, Refusal, Skipped, DEFAULT_SKIP_DEPTH};
 
 const STOP: u8 = 0x00;
 const VOID: u8 = 0x01;
@@ -31,33 +31,29 @@ const UNKNOWN: [u8; 4] = [0x05, 0x07, 0x09, 0x11];
 /// - 15: returned for a record under 24 bytes, and `skip` lends one of 24 (`src/ffi.rs` tests a shorter one);
 /// - 16, 17: it writes nothing;
 /// - 18, 19: it reads no frame and builds no limits.
-const GIVEN: [Refusal; 10] = [
-    Refusal::ShortInput,
-    Refusal::StartBeyond,
-    Refusal::UnknownType,
-    Refusal::NegativeSize,
-    Refusal::StringLimit,
-    Refusal::MessageLimit,
-    Refusal::SkipDepth,
-    Refusal::StructDepth,
-    Refusal::WrongType,
-    Refusal::DepthBeyond,
+const GIVEN: [Kind; 10] = [
+    Kind::ShortInput,
+    Kind::StartBeyond,
+    Kind::UnknownType,
+    Kind::NegativeSize,
+    Kind::StringLimit,
+    Kind::MessageLimit,
+    Kind::SkipDepth,
+    Kind::StructDepth,
+    Kind::WrongType,
+    Kind::DepthBeyond,
 ];
 
-fn passed(end: usize, count: usize) -> Result<Skipped, Refused> {
+fn passed(end: usize, count: usize) -> Result<Skipped, Refusal> {
     Ok(Skipped { end, count })
 }
 
-fn refused(refusal: Refusal, place: usize, count: usize) -> Result<Skipped, Refused> {
-    Err(Refused {
-        refusal,
-        place,
-        count,
-    })
+fn refused(kind: Kind, place: usize, count: usize) -> Result<Skipped, Refusal> {
+    Err(Refusal { kind, place, count })
 }
 
 /// A skip from the start at the usual depth.
-fn whole(bytes: &[u8], type_byte: u8) -> Result<Skipped, Refused> {
+fn whole(bytes: &[u8], type_byte: u8) -> Result<Skipped, Refusal> {
     skip(bytes, 0, DEFAULT_SKIP_DEPTH, type_byte)
 }
 
@@ -75,16 +71,16 @@ fn nested_lists(lists: usize) -> Vec<u8> {
 #[test]
 fn the_rules_cases() {
     assert_eq!(skip(&[2], 0, 1, BOOL), passed(1, 1));
-    assert_eq!(skip(&[2], 0, 0, BOOL), refused(Refusal::SkipDepth, 0, 1));
+    assert_eq!(skip(&[2], 0, 0, BOOL), refused(Kind::SkipDepth, 0, 1));
     let bytes = [BYTE, 0, 0, 0, 2, 5, 6];
     assert_eq!(skip(&bytes, 0, 2, LIST), passed(7, 3));
-    assert_eq!(skip(&bytes, 0, 1, LIST), refused(Refusal::SkipDepth, 5, 2));
+    assert_eq!(skip(&bytes, 0, 1, LIST), refused(Kind::SkipDepth, 5, 2));
     assert_eq!(skip(&[VOID, 0, 0, 0, 0], 0, 1, LIST), passed(5, 1));
     let void = [VOID, 0, 0, 0, 1];
-    assert_eq!(skip(&void, 0, 2, LIST), refused(Refusal::WrongType, 5, 2));
+    assert_eq!(skip(&void, 0, 2, LIST), refused(Kind::WrongType, 5, 2));
     let fields = [I32, 0, 1, 0, 0, 0, 9, STOP];
     assert_eq!(skip(&fields, 0, 2, STRUCT), passed(8, 2));
-    let negative = refused(Refusal::NegativeSize, 0, 1);
+    let negative = refused(Kind::NegativeSize, 0, 1);
     assert_eq!(whole(&[0xff; 4], STRING), negative);
 }
 
@@ -118,7 +114,7 @@ fn passes_what_is_as_deep_as_allowed() {
 
 #[test]
 fn short_input_is_1_at_what_is_not_whole() {
-    let short = |place, count| refused(Refusal::ShortInput, place, count);
+    let short = |place, count| refused(Kind::ShortInput, place, count);
     assert_eq!(whole(&[], BOOL), short(0, 1));
     assert_eq!(whole(&[0; 15], UUID), short(0, 1));
     assert_eq!(whole(&[0, 0, 0], STRING), short(0, 1));
@@ -133,18 +129,18 @@ fn short_input_is_1_at_what_is_not_whole() {
 fn start_beyond_is_2_before_20() {
     assert_eq!(
         skip(&[], 1, 128, UNKNOWN[0]),
-        refused(Refusal::StartBeyond, 1, 0)
+        refused(Kind::StartBeyond, 1, 0)
     );
     assert_eq!(
         skip(&[0], usize::MAX, 64, BOOL),
-        refused(Refusal::StartBeyond, usize::MAX, 0)
+        refused(Kind::StartBeyond, usize::MAX, 0)
     );
 }
 
 #[test]
 fn unknown_type_is_5_where_it_is_named() {
     for byte in UNKNOWN {
-        let unknown = |place, count| refused(Refusal::UnknownType, place, count);
+        let unknown = |place, count| refused(Kind::UnknownType, place, count);
         assert_eq!(skip(&[0, 0], 1, 0, byte), unknown(1, 0));
         assert_eq!(whole(&[byte], STRUCT), unknown(0, 1));
         assert_eq!(whole(&[byte, 0, 0, 0, 0], LIST), unknown(0, 1));
@@ -156,7 +152,7 @@ fn unknown_type_is_5_where_it_is_named() {
 
 #[test]
 fn negative_size_is_6() {
-    let negative = |place| refused(Refusal::NegativeSize, place, 1);
+    let negative = |place| refused(Kind::NegativeSize, place, 1);
     assert_eq!(whole(&[0x80, 0, 0, 0], STRING), negative(0));
     assert_eq!(whole(&[BOOL, 0xff, 0xff, 0xff, 0xff], LIST), negative(1));
     assert_eq!(
@@ -169,8 +165,8 @@ fn negative_size_is_6() {
 #[test]
 fn string_limit_is_7() {
     let declared = |length: u32| whole(&length.to_be_bytes(), STRING);
-    assert_eq!(declared(104_857_600), refused(Refusal::ShortInput, 4, 1));
-    assert_eq!(declared(104_857_601), refused(Refusal::StringLimit, 0, 1));
+    assert_eq!(declared(104_857_600), refused(Kind::ShortInput, 4, 1));
+    assert_eq!(declared(104_857_601), refused(Kind::StringLimit, 0, 1));
 }
 
 #[test]
@@ -178,18 +174,18 @@ fn message_limit_is_9() {
     let list =
         |element: u8, size: u32| whole(&[&[element][..], &size.to_be_bytes()].concat(), LIST);
     for (element, most) in [(BOOL, 104_857_600), (I64, 13_107_200), (UUID, 6_553_600)] {
-        assert_eq!(list(element, most), refused(Refusal::ShortInput, 5, 2));
+        assert_eq!(list(element, most), refused(Kind::ShortInput, 5, 2));
         let above = list(element, most + 1);
-        assert_eq!(above, refused(Refusal::MessageLimit, 1, 1));
+        assert_eq!(above, refused(Kind::MessageLimit, 1, 1));
     }
     let map = |size: u32| whole(&[&[I64, I64][..], &size.to_be_bytes()].concat(), MAP);
-    assert_eq!(map(6_553_600), refused(Refusal::ShortInput, 6, 2));
-    assert_eq!(map(6_553_601), refused(Refusal::MessageLimit, 2, 1));
+    assert_eq!(map(6_553_600), refused(Kind::ShortInput, 6, 2));
+    assert_eq!(map(6_553_601), refused(Kind::MessageLimit, 2, 1));
 }
 
 #[test]
 fn skip_depth_is_10_at_the_value() {
-    let deep = |place, count| refused(Refusal::SkipDepth, place, count);
+    let deep = |place, count| refused(Kind::SkipDepth, place, count);
     // before the type is asked about, but for an unknown one
     assert_eq!(skip(&[], 0, 0, VOID), deep(0, 1));
     assert_eq!(skip(&[BYTE, 0, 1, 7, STOP], 0, 1, STRUCT), deep(3, 2));
@@ -201,18 +197,18 @@ fn struct_depth_is_11_at_the_65th_struct() {
     let nested = nested_structs(65);
     assert_eq!(
         skip(&nested, 0, 127, STRUCT),
-        refused(Refusal::StructDepth, 192, 65)
+        refused(Kind::StructDepth, 192, 65)
     );
     // the skip depth comes first where both are used up
     assert_eq!(
         skip(&nested, 0, 64, STRUCT),
-        refused(Refusal::SkipDepth, 192, 65)
+        refused(Kind::SkipDepth, 192, 65)
     );
 }
 
 #[test]
 fn unskippable_type_is_12() {
-    let unskippable = |place, count| refused(Refusal::WrongType, place, count);
+    let unskippable = |place, count| refused(Kind::WrongType, place, count);
     assert_eq!(whole(&[], STOP), unskippable(0, 1));
     assert_eq!(whole(&[], VOID), unskippable(0, 1));
     assert_eq!(whole(&[VOID, 0, 1, 0], STRUCT), unskippable(3, 2));
@@ -222,7 +218,7 @@ fn unskippable_type_is_12() {
 
 #[test]
 fn depth_beyond_is_20_before_5() {
-    let beyond = |place| refused(Refusal::DepthBeyond, place, 0);
+    let beyond = |place| refused(Kind::DepthBeyond, place, 0);
     assert_eq!(skip(&[0], 1, 128, UNKNOWN[0]), beyond(1));
     assert_eq!(skip(&[0], 0, usize::MAX, BOOL), beyond(0));
 }
@@ -239,7 +235,7 @@ fn these_refusals_and_no_others_are_given() {
         Ok(skipped) => assert!(skipped.count <= skipped.end - place),
         Err(refused) => {
             assert!(refused.count <= refused.place - place + 1);
-            given.insert(refused.refusal);
+            given.insert(refused.kind);
         }
     };
     for length in 0..=5 {

@@ -2,12 +2,12 @@
 //! 16 is left out: it takes a text of 2,147,483,648 bytes.
 #![cfg(feature = "steps")]
 
-use turmyshge::steps::{self, Limits, MessageType, ReadCall, ReadStep, StepRefused, TType};
+use turmyshge::steps::{self, Limits, MessageType, ReadCall, ReadStep, StepRefusal, TType};
 use turmyshge::steps::{Absent, WriteCall, WriteStep};
-use turmyshge::Refusal;
+use turmyshge::Kind;
 
-fn refused<T>(refusal: Refusal, place: usize) -> Result<T, StepRefused> {
-    Err(StepRefused { refusal, place })
+fn refused<T>(kind: Kind, place: usize) -> Result<T, StepRefusal> {
+    Err(StepRefusal { kind, place })
 }
 
 #[test]
@@ -73,43 +73,40 @@ fn reads_are_refused() {
     let list = [3, 0, 0, 0, 2];
     assert_eq!(
         steps::read_message_begin(&[0; 4], 0, true, none),
-        refused(Refusal::BadVersion, 0)
+        refused(Kind::BadVersion, 0)
     );
     assert_eq!(
         steps::read_message_begin(&[0x80, 1, 0, 5], 0, true, none),
-        refused(Refusal::BadMessageType, 3)
+        refused(Kind::BadMessageType, 3)
     );
     assert_eq!(
         steps::read_list_begin(&list, 0, low),
-        refused(Refusal::ContainerLimit, 1)
+        refused(Kind::ContainerLimit, 1)
     );
     assert_eq!(
         steps::read_string(&[0, 0, 0, 1, 0xff], 0, none),
-        refused(Refusal::NotUtf8, 4)
+        refused(Kind::NotUtf8, 4)
     );
     assert_eq!(
         steps::read_frame(&[0, 0, 0, 2], 0, low),
-        refused(Refusal::FrameLimit, 0)
+        refused(Kind::FrameLimit, 0)
     );
     let build = steps::read(&ReadCall::new(ReadStep::Limits, &[], 0).under(low));
-    assert_eq!(build.into_result(), refused(Refusal::FrameAboveMessage, 0));
+    assert_eq!(build.into_result(), refused(Kind::FrameAboveMessage, 0));
     let end = steps::read(&ReadCall::new(ReadStep::StructEnd, &[], 0));
-    assert_eq!(end.into_result(), refused(Refusal::NoStructOpen, 0));
+    assert_eq!(end.into_result(), refused(Kind::NoStructOpen, 0));
 }
 
 #[test]
 fn starts_and_struct_depths_beyond_are_refused() {
-    assert_eq!(
-        steps::read_i16(&[0; 4], 5),
-        refused(Refusal::StartBeyond, 5)
-    );
+    assert_eq!(steps::read_i16(&[0; 4], 5), refused(Kind::StartBeyond, 5));
     let call = ReadCall {
         struct_depth: 65_536,
         ..ReadCall::new(ReadStep::StructBegin, &[0; 4], 2)
     };
     assert_eq!(
         steps::read(&call).into_result(),
-        refused(Refusal::DepthBeyond, 2)
+        refused(Kind::DepthBeyond, 2)
     );
 }
 
@@ -118,18 +115,18 @@ fn refused_writes_change_nothing() {
     let mut out = [0xee; 4];
     assert_eq!(
         steps::write_i64(&mut out, 1, 0),
-        refused(Refusal::OutputFull, 1)
+        refused(Kind::OutputFull, 1)
     );
     assert_eq!(
         steps::write_field_begin(&mut out, 1, TType::I32, None),
-        refused(Refusal::Missing, 1)
+        refused(Kind::Missing, 1)
     );
     let not_utf8 = WriteCall {
         text: &[0xff],
         ..WriteCall::new(WriteStep::String, 0)
     };
     let answer = steps::write(&not_utf8, &mut out).unwrap();
-    assert_eq!(answer.into_result(), refused(Refusal::NotUtf8, 0));
+    assert_eq!(answer.into_result(), refused(Kind::NotUtf8, 0));
     let no_value_type = WriteCall {
         absent: Absent {
             first: false,
@@ -138,6 +135,6 @@ fn refused_writes_change_nothing() {
         ..WriteCall::new(WriteStep::MapBegin, 2)
     };
     let answer = steps::write(&no_value_type, &mut out).unwrap();
-    assert_eq!(answer.into_result(), refused(Refusal::Missing, 2));
+    assert_eq!(answer.into_result(), refused(Kind::Missing, 2));
     assert_eq!(out, [0xee; 4]);
 }

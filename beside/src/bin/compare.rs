@@ -1,6 +1,6 @@
 //! Compares the published crate with the port and prints what came of it.
 //!
-//! `compare [--threads N] [--rounds N] [--seed N] [--short] [--try-wrong]`
+//! `compare [--threads N] [--rounds N] [--seed N] [--short] [--whole] [--try-wrong]`
 
 use std::process::ExitCode;
 use std::time::Instant;
@@ -11,7 +11,7 @@ use beside::known::Known;
 use beside::{habits, port, published, shares, wrong};
 
 const SEED: u64 = 20_250_117;
-/// Random trees: with the exhaustive sections a run of about two minutes.
+/// Random trees: with the exhaustive sections a run of about two minutes on two cores.
 const ROUNDS: u64 = 60_000;
 
 struct Arguments {
@@ -19,6 +19,7 @@ struct Arguments {
     rounds: u64,
     seed: u64,
     short: bool,
+    whole: bool,
     only_wrong: bool,
 }
 
@@ -28,6 +29,7 @@ fn arguments() -> Result<Arguments, String> {
         rounds: ROUNDS,
         seed: SEED,
         short: false,
+        whole: false,
         only_wrong: false,
     };
     let mut words = std::env::args().skip(1);
@@ -41,6 +43,7 @@ fn arguments() -> Result<Arguments, String> {
             "--rounds" => arguments.rounds = number()?,
             "--seed" => arguments.seed = number()?,
             "--short" => arguments.short = true,
+            "--whole" => arguments.whole = true,
             "--try-wrong" => arguments.only_wrong = true,
             _ => return Err(format!("no such argument: {word}")),
         }
@@ -58,7 +61,11 @@ fn compare(arguments: &Arguments) -> Tally {
     };
     let ports = port::all();
     let mut sum = Tally::default();
-    let wanted = |section: &&Section| !arguments.short || section.amount != Amount::Most;
+    let wanted = |section: &&Section| match section.amount {
+        Amount::Most => !arguments.short,
+        Amount::Rest => arguments.whole,
+        _ => true,
+    };
     for section in SECTIONS.iter().filter(wanted) {
         let start = Instant::now();
         let tally = shares::run(section, arguments.threads, length, &ports);
@@ -95,7 +102,7 @@ fn main() -> ExitCode {
         }
     };
     published::hush_expected_panics();
-    if !wrong::all_caught() || !habits::all_shown() {
+    if !wrong::all_caught(arguments.only_wrong) || !habits::all_shown() {
         return ExitCode::FAILURE;
     }
     if arguments.only_wrong {

@@ -2,7 +2,7 @@
 
 use std::process::ExitCode;
 
-use beside::inputs::{Amount, Share, SECTIONS};
+use beside::inputs::{Share, SECTIONS};
 use beside::kept::Keeper;
 use beside::published;
 
@@ -15,11 +15,7 @@ fn main() -> ExitCode {
         seed: 7,
     };
     let mut keeper = Keeper::new(share.seed);
-    // the largest section's strings are mostly cut short
-    for section in SECTIONS
-        .iter()
-        .filter(|section| section.amount != Amount::Most)
-    {
+    for section in SECTIONS.iter().filter(|section| section.kept) {
         (section.show)(&mut keeper, &share);
     }
     for line in keeper.lines() {

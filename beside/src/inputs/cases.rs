@@ -1,7 +1,7 @@
 //! The cases that the rules write down, W1 to W12 and two pairs.
 
 use turmyshge::steps::{Answer, ReadCall, ReadStep, TType, WriteCall, WriteStep};
-use turmyshge::Refusal;
+use turmyshge::Kind;
 
 use super::Share;
 use crate::port::skip_refused;
@@ -30,34 +30,34 @@ fn show_messages(visitor: &mut dyn Visitor) {
     };
     visitor.expect_read(&legacy, Answer::accepted(11, [4, 6, 1, 7]));
     let unversioned = ReadCall::new(ReadStep::MessageBegin, &LEGACY, 0);
-    visitor.expect_read(&unversioned, Answer::refused(Refusal::BadVersion, 0));
+    visitor.expect_read(&unversioned, Answer::refused(Kind::BadVersion, 0));
 }
 
 fn show_skips(visitor: &mut dyn Visitor) {
     let passed = |end, count| Answer::accepted(end, [count, 0, 0, 0]);
     let cases: [(TType, &[u8], usize, Answer); 8] = [
         (TType::Bool, &[2], 1, passed(1, 1)),
-        (TType::Bool, &[2], 0, skip_refused(Refusal::SkipDepth, 0, 1)),
+        (TType::Bool, &[2], 0, skip_refused(Kind::SkipDepth, 0, 1)),
         (TType::List, &TWO_BYTES, 2, passed(7, 3)),
         (
             TType::List,
             &TWO_BYTES,
             1,
-            skip_refused(Refusal::SkipDepth, 5, 2),
+            skip_refused(Kind::SkipDepth, 5, 2),
         ),
         (TType::List, &[1, 0, 0, 0, 0], 1, passed(5, 1)),
         (
             TType::List,
             &[1, 0, 0, 0, 1],
             2,
-            skip_refused(Refusal::WrongType, 5, 2),
+            skip_refused(Kind::WrongType, 5, 2),
         ),
         (TType::Struct, &[8, 0, 1, 0, 0, 0, 9, 0], 2, passed(8, 2)),
         (
             TType::String,
             &[0xff; 4],
             1,
-            skip_refused(Refusal::NegativeSize, 0, 1),
+            skip_refused(Kind::NegativeSize, 0, 1),
         ),
     ];
     for (kind, bytes, depth, answer) in cases {
@@ -87,7 +87,7 @@ fn show_pairs(visitor: &mut dyn Visitor) {
         &header(&fits),
         Answer::accepted(5, [0x0a, 13_107_200, 0, 0]),
     );
-    visitor.expect_read(&header(&above), Answer::refused(Refusal::MessageLimit, 1));
+    visitor.expect_read(&header(&above), Answer::refused(Kind::MessageLimit, 1));
 
     let mut frame = 16_384_000_u32.to_be_bytes().to_vec();
     frame.resize(16_384_004, 0x55);
@@ -95,5 +95,5 @@ fn show_pairs(visitor: &mut dyn Visitor) {
     visitor.expect_read(&whole, Answer::accepted(16_384_004, [1, 4, 16_384_004, 0]));
     let above = 16_384_001_u32.to_be_bytes();
     let above = ReadCall::new(ReadStep::Frame, &above, 0);
-    visitor.expect_read(&above, Answer::refused(Refusal::FrameLimit, 0));
+    visitor.expect_read(&above, Answer::refused(Kind::FrameLimit, 0));
 }

@@ -8,6 +8,8 @@ mod host;
 mod limits;
 mod numbers;
 mod reads;
+mod runs;
+mod series;
 mod short;
 mod tree;
 mod trees;
@@ -23,7 +25,7 @@ pub struct Share {
     pub index: usize,
     /// How many there are.
     pub of: usize,
-    /// Random trees for each unit of a random section.
+    /// Random trees that are asked for.
     pub rounds: u64,
     /// What the random numbers come from.
     pub seed: u64,
@@ -45,6 +47,10 @@ pub enum Amount {
     Much,
     /// Shown in a minute or more.
     Most,
+    /// The same, and it can hardly find a fault that the others don't.
+    Rest,
+    /// As many random values as are asked for.
+    Asked,
 }
 
 /// A kind of input.
@@ -53,6 +59,8 @@ pub struct Section {
     pub name: &'static str,
     /// How much there is of it.
     pub amount: Amount,
+    /// Whether the kept list is drawn from it. Drawing from one more would make it another list.
+    pub kept: bool,
     /// Shows a share of it.
     pub show: fn(&mut dyn Visitor, &Share),
 }
@@ -62,11 +70,23 @@ const fn section(
     name: &'static str,
     show: fn(&mut dyn Visitor, &Share),
 ) -> Section {
-    Section { name, amount, show }
+    Section {
+        name,
+        amount,
+        kept: true,
+        show,
+    }
+}
+
+const fn not_kept(section: Section) -> Section {
+    Section {
+        kept: false,
+        ..section
+    }
 }
 
 /// Every kind of input, the quick ones first.
-pub const SECTIONS: [Section; 11] = [
+pub const SECTIONS: [Section; 16] = [
     section(Amount::Little, "the rules' own cases", cases::show),
     section(Amount::Little, "limits at, below and above", limits::show),
     section(Amount::Little, "depths and struct depths", depths::show),
@@ -79,11 +99,40 @@ pub const SECTIONS: [Section; 11] = [
         "every string to 6 of telling bytes",
         short::show_telling,
     ),
-    section(Amount::Much, "random trees, whole and damaged", trees::show),
-    section(Amount::Much, "texts, UTF-8 and not", utf8::show),
+    not_kept(section(
+        Amount::Much,
+        "skips of these to 5 at depths 0 to 2",
+        short::show_shallow,
+    )),
+    not_kept(section(
+        Amount::Much,
+        "elements of a fixed width, cut at every byte",
+        runs::show,
+    )),
     section(
+        Amount::Asked,
+        "random trees, whole and damaged",
+        trees::show,
+    ),
+    not_kept(section(
+        Amount::Asked,
+        "deep and wide random trees",
+        trees::show_far,
+    )),
+    not_kept(section(
+        Amount::Asked,
+        "one reader, one writer, to the first refusal",
+        series::show,
+    )),
+    section(Amount::Much, "texts, UTF-8 and not", utf8::show),
+    not_kept(section(
         Amount::Most,
         "every string of 0 to 3 bytes",
         short::show_all,
-    ),
+    )),
+    not_kept(section(
+        Amount::Rest,
+        "the same where no byte decides",
+        short::show_undecided,
+    )),
 ];

@@ -28,15 +28,38 @@ pub fn all() -> Vec<ReadCall<'static>> {
     calls
 }
 
-/// Those of them whose answer depends on a byte.
-pub fn of_bytes() -> Vec<ReadCall<'static>> {
-    all().into_iter().filter(looks_at_bytes).collect()
+/// The skip of every type at a depth.
+pub fn skips(depth: usize) -> [ReadCall<'static>; TType::ALL.len()] {
+    TType::ALL.map(|kind| ReadCall {
+        depth,
+        ..ReadCall::new(ReadStep::Skip, &[], 0).of(kind)
+    })
+}
+
+/// All of them, and the steps that look at no byte: a struct's begin, its end with none and one open, the limits.
+pub fn every() -> Vec<ReadCall<'static>> {
+    let bare = |step| ReadCall::new(step, &[], 0);
+    let end_of_one = ReadCall {
+        struct_depth: 1,
+        ..bare(ReadStep::StructEnd)
+    };
+    let steps = [ReadStep::StructBegin, ReadStep::StructEnd, ReadStep::Limits];
+    let mut calls = all();
+    calls.extend(steps.map(bare));
+    calls.push(end_of_one);
+    calls
+}
+
+/// Those whose answer the bytes decide, and those for which only their number counts.
+pub fn by_bytes() -> (Vec<ReadCall<'static>>, Vec<ReadCall<'static>>) {
+    every().into_iter().partition(looks_at_bytes)
 }
 
 fn looks_at_bytes(call: &ReadCall<'_>) -> bool {
     match call.step {
         ReadStep::Skip => !matches!(call.kind, TType::Stop | TType::Void | TType::Utf7),
         ReadStep::Scalar => SCALARS.contains(&call.kind),
+        ReadStep::StructBegin | ReadStep::StructEnd | ReadStep::Limits => false,
         step => !ENDS.contains(&step),
     }
 }

@@ -51,11 +51,18 @@ fn show_strings(
     });
 }
 
-/// Every string of 0 to 3 bytes, to each read whose answer depends on them; the other reads get 0 to 2.
+/// Every string of 0 to 3 bytes, to every read and every type's skip whose answer bytes decide; to the others, to 2.
 pub fn show_all(visitor: &mut dyn Visitor, share: &Share) {
     let bytes: Vec<u8> = (0..=255).collect();
-    show_strings(visitor, share, &reads::of_bytes(), &bytes, 3);
-    show_strings(visitor, share, &reads::all(), &bytes, 2);
+    let (decided, others) = reads::by_bytes();
+    show_strings(visitor, share, &decided, &bytes, 3);
+    show_strings(visitor, share, &others, &bytes, 2);
+}
+
+/// The others with every string of 0 to 3 bytes as well.
+pub fn show_undecided(visitor: &mut dyn Visitor, share: &Share) {
+    let bytes: Vec<u8> = (0..=255).collect();
+    show_strings(visitor, share, &reads::by_bytes().1, &bytes, 3);
 }
 
 /// Every string of 0 to 6 telling bytes.
@@ -65,4 +72,10 @@ pub fn show_telling(visitor: &mut dyn Visitor, share: &Share) {
         .partition(|call| call.step == ReadStep::Frame);
     show_strings(visitor, share, &others, &TELLING, 6);
     show_strings(visitor, share, &frames, &TELLING_FRAMES, 6);
+}
+
+/// Skips of every string of 0 to 5 telling bytes at the depths that end sooner.
+pub fn show_shallow(visitor: &mut dyn Visitor, share: &Share) {
+    let calls: Vec<_> = (0..3).flat_map(reads::skips).collect();
+    show_strings(visitor, share, &calls, &TELLING, 5);
 }

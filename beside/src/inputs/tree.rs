@@ -14,6 +14,13 @@ pub struct Tree {
     pub levels: usize,
 }
 
+impl Tree {
+    /// The calls that write it.
+    pub fn calls(&self) -> Vec<WriteCall<'_>> {
+        self.writes.iter().map(|write| write.call(0)).collect()
+    }
+}
+
 /// One write of a value.
 pub struct Write {
     /// The step.
@@ -38,6 +45,13 @@ impl Write {
             text,
             ..Write::new(step, [TType::Stop; 2], 0)
         }
+    }
+
+    /// Whether it puts bytes; a begin or end that puts none only changes the struct depth, or nothing.
+    pub fn puts_bytes(&self) -> bool {
+        use WriteStep::{FieldEnd, ListEnd, MapEnd, SetEnd, StructBegin, StructEnd};
+        let bare = [StructBegin, StructEnd, FieldEnd, ListEnd, SetEnd, MapEnd];
+        !bare.contains(&self.step)
     }
 
     /// The call that makes it at `place`.
@@ -65,25 +79,76 @@ const SCALARS: [TType; 8] = [
 ];
 const NESTING: [TType; 4] = [TType::Struct, TType::List, TType::Set, TType::Map];
 
+/// What a random value is to be like.
+pub struct Growth {
+    /// The values in it, or so.
+    pub size: usize,
+    /// The most levels of nesting.
+    pub levels: usize,
+    /// A value has fewer parts than this.
+    pub parts: usize,
+    /// The levels that are reached in any case, by one line of values from the whole downwards.
+    pub reach: usize,
+    /// The types in that line.
+    pub line: &'static [TType],
+}
+
+impl Growth {
+    /// As deep as it comes.
+    pub fn usual(size: usize, levels: usize) -> Growth {
+        Growth {
+            size,
+            levels,
+            parts: 5,
+            reach: 0,
+            line: &NESTING,
+        }
+    }
+
+    /// Deep: a little of everything around a line of values that goes to `levels`.
+    pub fn deep(levels: usize, line: &'static [TType]) -> Growth {
+        Growth {
+            size: 150,
+            levels,
+            parts: 4,
+            reach: levels,
+            line,
+        }
+    }
+
+    /// Wide: few levels, many parts.
+    pub fn wide() -> Growth {
+        Growth {
+            parts: 50,
+            ..Growth::usual(300, 4)
+        }
+    }
+}
+
 /// Grows values from random numbers.
 pub struct Grower<'a> {
     rng: &'a mut Rng,
+    growth: Growth,
     writes: Vec<Write>,
     /// Values that may still be begun.
     left: usize,
     deepest: usize,
+    /// How deep the line of values has come.
+    line_at: usize,
 }
 
-/// A random value of at most `size` values or so, at most `levels` deep.
-pub fn grow(rng: &mut Rng, size: usize, levels: usize) -> Tree {
+/// A random value.
+pub fn grow(rng: &mut Rng, growth: Growth) -> Tree {
     let kind = rng.pick(&NESTING);
     let mut grower = Grower {
         rng,
         writes: Vec::new(),
-        left: size,
+        left: growth.size,
         deepest: 0,
+        line_at: 0,
+        growth,
     };
-    grower.value(kind, levels, 1);
+    grower.value(kind, grower.growth.levels, 1);
     Tree {
         kind,
         levels: grower.deepest,
@@ -102,6 +167,22 @@ impl Grower<'_> {
         }
     }
 
+    /// Whether a value that can have parts is the next in the line, and not its last: its first part is then one that
+    /// can have parts too.
+    fn leads_on(&mut self, depth: usize) -> bool {
+        let leads = depth == self.line_at + 1 && depth < self.growth.reach;
+        self.line_at += usize::from(leads);
+        leads
+    }
+
+    fn part_kind(&mut self, leads: bool, levels: usize) -> TType {
+        if leads {
+            self.rng.pick(self.growth.line)
+        } else {
+            self.kind(levels)
+        }
+    }
+
     fn value(&mut self, kind: TType, levels: usize, depth: usize) {
         self.left = self.left.saturating_sub(1);
         self.deepest = self.deepest.max(depth);
@@ -115,6 +196,10 @@ impl Grower<'_> {
 
     fn put(&mut self, step: WriteStep, kinds: [TType; 2], number: u64) {
         self.writes.push(Write::new(step, kinds, number));
+    }
+
+    fn bare(&mut self, step: WriteStep) {
+        self.put(step, [TType::Stop; 2], 0);
     }
 
     fn scalar(&mut self, kind: TType) {
@@ -146,41 +231,51 @@ impl Grower<'_> {
     }
 
     fn fields(&mut self, levels: usize, depth: usize) {
-        for _ in 0..self.parts() {
-            let kind = self.kind(levels);
+        let leads = self.leads_on(depth);
+        self.bare(WriteStep::StructBegin);
+        for number in 0..self.parts(leads) {
+            let kind = self.part_kind(leads && number == 0, levels);
             let id = self.rng.bits() & 0xffff;
             self.put(WriteStep::FieldBegin, [kind, kind], id);
             self.value(kind, levels - 1, depth + 1);
+            self.bare(WriteStep::FieldEnd);
         }
-        self.put(WriteStep::FieldStop, [TType::Stop; 2], 0);
+        self.bare(WriteStep::FieldStop);
+        self.bare(WriteStep::StructEnd);
     }
 
     fn items(&mut self, list: TType, levels: usize, depth: usize) {
-        let kind = self.kind(levels);
-        let size = self.parts();
-        let step = if list == TType::List {
-            WriteStep::ListBegin
+        let leads = self.leads_on(depth);
+        let kind = self.part_kind(leads, levels);
+        let size = self.parts(leads);
+        let (begin, end) = if list == TType::List {
+            (WriteStep::ListBegin, WriteStep::ListEnd)
         } else {
-            WriteStep::SetBegin
+            (WriteStep::SetBegin, WriteStep::SetEnd)
         };
-        self.put(step, [kind, kind], size as u64);
+        self.put(begin, [kind, kind], size as u64);
         for _ in 0..size {
             self.value(kind, levels - 1, depth + 1);
         }
+        self.bare(end);
     }
 
     fn pairs(&mut self, levels: usize, depth: usize) {
-        let kinds = [self.kind(levels), self.kind(levels)];
-        let size = self.parts();
+        let leads = self.leads_on(depth);
+        // the line goes on in the first value, or in the key where that can have parts
+        let kinds = [self.kind(levels), self.part_kind(leads, levels)];
+        let size = self.parts(leads);
         self.put(WriteStep::MapBegin, kinds, size as u64);
         for _ in 0..size {
             self.value(kinds[0], levels - 1, depth + 1);
             self.value(kinds[1], levels - 1, depth + 1);
         }
+        self.bare(WriteStep::MapEnd);
     }
 
-    /// How many parts a value gets: none once the values are used up.
-    fn parts(&mut self) -> usize {
-        self.rng.below(5).min(self.left)
+    /// How many parts a value gets: none once the values are used up, but in the line always one.
+    fn parts(&mut self, leads: bool) -> usize {
+        let parts = self.rng.below(self.growth.parts).min(self.left);
+        parts.max(usize::from(leads))
     }
 }

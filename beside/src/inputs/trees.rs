@@ -3,11 +3,11 @@
 use turmyshge::steps::{Limits, ReadCall, ReadStep, TType, WriteCall, WriteStep};
 
 use super::damage::{damaged, Damage};
-use super::tree::{grow, Tree};
+use super::tree::{grow, Growth, Tree};
 use super::Share;
 use crate::plain::Plain;
-use crate::port::{self, Port};
-use crate::published::{put, Writer};
+use crate::port::Port;
+use crate::published;
 use crate::rng::Rng;
 use crate::visitor::Visitor;
 
@@ -18,72 +18,95 @@ const COPIES: usize = 6;
 pub fn show(visitor: &mut dyn Visitor, share: &Share) {
     for round in 0..share.rounds {
         if share.takes(round as usize) {
-            show_one(visitor, &mut Rng::new(share.seed, round));
+            show_usual(visitor, &mut Rng::new(share.seed, round));
         }
     }
 }
 
-fn show_one(visitor: &mut dyn Visitor, rng: &mut Rng) {
+/// Shows random values that are very deep or very wide, one for ten of the others.
+pub fn show_far(visitor: &mut dyn Visitor, share: &Share) {
+    for round in 0..share.rounds.div_ceil(10) {
+        if share.takes(round as usize) {
+            let rng = &mut Rng::new(share.seed, FAR + round);
+            if rng.once_in(2) {
+                show_deep(visitor, rng);
+            } else {
+                let tree = grow(rng, Growth::wide());
+                show_tree(visitor, &tree, rng);
+            }
+        }
+    }
+}
+
+/// Where the random numbers for the deep and wide ones begin.
+const FAR: u64 = 1 << 40;
+
+fn show_usual(visitor: &mut dyn Visitor, rng: &mut Rng) {
     let levels = if rng.once_in(8) {
         127
     } else {
         1 + rng.below(8)
     };
     let size = 1 + rng.below(60);
-    let tree = grow(rng, size, levels);
-    show_writes(visitor, &tree);
-    let bytes = by_the_crate(&tree);
-    for port in port::all() {
-        let written = by_a_port(port, &tree);
-        assert!(
-            written.is_none_or(|written| written == bytes),
-            "{} writes other bytes than {bytes:x?}",
-            port.name()
-        );
+    let tree = grow(rng, Growth::usual(size, levels));
+    show_tree(visitor, &tree, rng);
+}
+
+/// A value as deep as a skip may go, or nearly, or a little deeper. With no limit on structs it is passed.
+fn show_deep(visitor: &mut dyn Visitor, rng: &mut Rng) {
+    let line: &[TType] = rng.pick(&LINES);
+    let levels = rng.pick(&[100, 125, 126, 127, 127, 128, 129]);
+    let tree = grow(rng, Growth::deep(levels, line));
+    show_tree(visitor, &tree, rng);
+    let bytes = published::written(&tree.calls());
+    for depth in levels - 2..=levels + 1 {
+        show_unlimited(visitor, tree.kind, &bytes, depth);
     }
-    show_skips(visitor, &tree, &bytes, rng);
-    show_walk(visitor, &tree, &bytes);
-    show_message(visitor, &tree, &bytes, rng);
+    for how in Damage::ALL {
+        show_unlimited(visitor, tree.kind, &damaged(&bytes, how, rng), 127);
+    }
+}
+
+fn show_unlimited(visitor: &mut dyn Visitor, kind: TType, bytes: &[u8], depth: usize) {
+    let call = ReadCall {
+        depth,
+        ..ReadCall::new(ReadStep::Skip, bytes, 0).of(kind)
+    };
+    visitor.read(&call.under(Limits::NONE));
+}
+
+/// What a deep value nests: anything, or structs to beyond their limit.
+const LINES: [&[TType]; 3] = [
+    &[TType::Struct, TType::List, TType::Set, TType::Map],
+    &[TType::Struct, TType::Struct, TType::List],
+    &[TType::Struct],
+];
+
+/// A value written, read, skipped, and put behind a message header; then damaged.
+fn show_tree(visitor: &mut dyn Visitor, tree: &Tree, rng: &mut Rng) {
+    show_writes(visitor, tree);
+    let calls = tree.calls();
+    let bytes = published::written(&calls);
+    // the port writes the same, by one writer from the first byte to the last
+    visitor.writes(&calls, bytes.len());
+    show_skips(visitor, tree, &bytes, rng);
+    show_walk(visitor, tree, &bytes);
+    show_message(visitor, tree, &bytes, rng);
     for _ in 0..COPIES {
         for how in Damage::ALL {
             let copy = damaged(&bytes, how, rng);
-            show_skips(visitor, &tree, &copy, rng);
-            show_walk(visitor, &tree, &copy);
+            show_skips(visitor, tree, &copy, rng);
+            show_walk(visitor, tree, &copy);
         }
     }
 }
 
 /// Every write of the tree, each by a fresh writer.
 fn show_writes(visitor: &mut dyn Visitor, tree: &Tree) {
-    for write in &tree.writes {
+    for write in tree.writes.iter().filter(|write| write.puts_bytes()) {
         let call = write.call(0);
         visitor.write(&call, call.text.len() + 16);
     }
-}
-
-/// The tree's bytes, all written by one of the crate's writers.
-fn by_the_crate(tree: &Tree) -> Vec<u8> {
-    let mut writer = Writer::new(Vec::new(), true);
-    for write in &tree.writes {
-        put(&mut writer, &write.call(0)).expect("a growing buffer takes everything");
-    }
-    writer.transport
-}
-
-/// The tree's bytes, all written by a port, if it writes.
-fn by_a_port(port: &dyn Port, tree: &Tree) -> Option<Vec<u8>> {
-    let most: usize = tree
-        .writes
-        .iter()
-        .map(|write| 16 + write.call(0).text.len())
-        .sum();
-    let mut out = vec![0; most];
-    let mut at = 0;
-    for write in &tree.writes {
-        at = port.write(&write.call(at), &mut out)?.place;
-    }
-    out.truncate(at);
-    Some(out)
 }
 
 /// Skips of the bytes at depths around the tree's own, under the default limits and random ones.
@@ -146,7 +169,8 @@ fn next(call: &ReadCall<'_>) -> Option<(u64, usize)> {
         .then_some((answer.values[0], answer.place))
 }
 
-fn random_limits(rng: &mut Rng) -> Limits {
+/// Limits small enough to be met, or none.
+pub fn random_limits(rng: &mut Rng) -> Limits {
     let mut limit = |most| (!rng.once_in(3)).then(|| rng.below(most));
     Limits {
         message: limit(64),
@@ -171,14 +195,12 @@ fn show_message(visitor: &mut dyn Visitor, tree: &Tree, bytes: &[u8], rng: &mut 
         ..WriteCall::new(WriteStep::MessageBegin, 0)
     };
     visitor.write(&call, name.len() + 12);
-    let mut writer = Writer::new(Vec::new(), strict);
-    put(&mut writer, &call).expect("a growing buffer takes everything");
-    let header = writer.transport.len();
-    let message = [&writer.transport, bytes].concat();
+    let header = published::written(&[call]);
+    let message = [&header, bytes].concat();
     show_header(visitor, &message);
-    visitor.read(&ReadCall::new(ReadStep::Skip, &message, header).of(tree.kind));
+    visitor.read(&ReadCall::new(ReadStep::Skip, &message, header.len()).of(tree.kind));
     for how in Damage::ALL {
-        show_header(visitor, &damaged(&message[..header], how, rng));
+        show_header(visitor, &damaged(&header, how, rng));
     }
 }
 

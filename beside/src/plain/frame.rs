@@ -1,6 +1,6 @@
 //! Frames.
 
-use turmyshge::Refusal;
+use turmyshge::Kind;
 
 use super::{refuse, text, Read};
 
@@ -11,7 +11,7 @@ pub fn read(bytes: &[u8], at: usize, limit: Option<usize>) -> Read<[u64; 4]> {
     }
     let (length, start) = text::size(bytes, at)?;
     if limit.is_some_and(|limit| length > limit) {
-        return refuse(Refusal::FrameLimit, at);
+        return refuse(Kind::FrameLimit, at);
     }
     let (payload, end) = text::body(bytes, start, length)?;
     Ok(([1, payload.start as u64, payload.end as u64, 0], end))

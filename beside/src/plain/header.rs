@@ -1,7 +1,7 @@
 //! Headers of fields, containers, structs and messages.
 
-use turmyshge::steps::{Limits, MessageType, StepRefused, TType};
-use turmyshge::Refusal;
+use turmyshge::steps::{Limits, MessageType, StepRefusal, TType};
+use turmyshge::Kind;
 
 use super::number::{item, unsigned};
 use super::{refuse, text, Read, MOST_STRUCTS};
@@ -12,7 +12,7 @@ pub fn type_byte(bytes: &[u8], at: usize) -> Read<TType> {
     let ([byte], end) = item::<1>(bytes, at)?;
     match KINDS.get(usize::from(byte)) {
         Some(Some(kind)) => Ok((*kind, end)),
-        _ => refuse(Refusal::UnknownType, at),
+        _ => refuse(Kind::UnknownType, at),
     }
 }
 
@@ -62,10 +62,10 @@ pub fn field(bytes: &[u8], at: usize) -> Read<[u64; 4]> {
 fn count(bytes: &[u8], at: usize, least: usize, limits: &Limits) -> Read<usize> {
     let (size, end) = text::size(bytes, at)?;
     if limits.container.is_some_and(|limit| size > limit) {
-        return refuse(Refusal::ContainerLimit, at);
+        return refuse(Kind::ContainerLimit, at);
     }
     if limits.message.is_some_and(|limit| size * least > limit) {
-        return refuse(Refusal::MessageLimit, at);
+        return refuse(Kind::MessageLimit, at);
     }
     Ok((size, end))
 }
@@ -104,18 +104,18 @@ pub fn map_values(bytes: &[u8], at: usize, limits: &Limits) -> Read<[u64; 4]> {
 
 /// The struct depth after a begin.
 #[inline]
-pub fn struct_begin(at: usize, open: usize, limit: Option<usize>) -> Result<usize, StepRefused> {
+pub fn struct_begin(at: usize, open: usize, limit: Option<usize>) -> Result<usize, StepRefusal> {
     if open >= MOST_STRUCTS || limit.is_some_and(|limit| open >= limit) {
-        return refuse(Refusal::StructDepth, at);
+        return refuse(Kind::StructDepth, at);
     }
     Ok(open + 1)
 }
 
 /// The struct depth after an end.
-pub fn struct_end(at: usize, open: usize) -> Result<usize, StepRefused> {
+pub fn struct_end(at: usize, open: usize) -> Result<usize, StepRefusal> {
     match open.checked_sub(1) {
         Some(left) => Ok(left),
-        None => refuse(Refusal::NoStructOpen, at),
+        None => refuse(Kind::NoStructOpen, at),
     }
 }
 
@@ -124,7 +124,7 @@ pub fn message_type(bytes: &[u8], at: usize) -> Read<u64> {
     let ([byte], end) = item::<1>(bytes, at)?;
     match MessageType::from_byte(byte) {
         Some(_) => Ok((byte.into(), end)),
-        None => refuse(Refusal::BadMessageType, at),
+        None => refuse(Kind::BadMessageType, at),
     }
 }
 
@@ -133,7 +133,7 @@ pub fn message(bytes: &[u8], at: usize, strict: bool, limits: &Limits) -> Read<[
     let (head, end) = item::<4>(bytes, at)?;
     let versioned = head[0] >= 0x80;
     if (versioned && head[..2] != [0x80, 0x01]) || (!versioned && strict) {
-        return refuse(Refusal::BadVersion, at);
+        return refuse(Kind::BadVersion, at);
     }
     let (name, kind, end) = if versioned {
         let (kind, _) = message_type(bytes, at + 3)?;

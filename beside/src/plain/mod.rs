@@ -7,8 +7,8 @@ mod skip;
 mod text;
 mod write;
 
-use turmyshge::steps::{Answer, Limits, ReadCall, ReadStep, StepRefused, TType, WriteCall};
-use turmyshge::Refusal;
+use turmyshge::steps::{Answer, Limits, ReadCall, ReadStep, StepRefusal, TType, WriteCall};
+use turmyshge::Kind;
 
 use crate::port::{skip_refused, Port};
 pub use number::NAN;
@@ -19,10 +19,10 @@ const DEEPEST: usize = 127;
 const MOST_STRUCTS: usize = 65_535;
 
 /// Some values and the place after them.
-type Read<T> = Result<(T, usize), StepRefused>;
+type Read<T> = Result<(T, usize), StepRefusal>;
 
-fn refuse<T>(refusal: Refusal, place: usize) -> Result<T, StepRefused> {
-    Err(StepRefused { refusal, place })
+fn refuse<T>(kind: Kind, place: usize) -> Result<T, StepRefusal> {
+    Err(StepRefusal { kind, place })
 }
 
 /// The plain implementation.
@@ -40,7 +40,7 @@ impl Port for Plain {
     fn write(&self, call: &WriteCall<'_>, out: &mut [u8]) -> Option<Answer> {
         Some(match write::write(call, out) {
             Ok((value, end)) => Answer::accepted(end, [value, 0, 0, 0]),
-            Err(refused) => Answer::refused(refused.refusal, refused.place),
+            Err(refused) => Answer::refused(refused.kind, refused.place),
         })
     }
 
@@ -52,14 +52,14 @@ impl Port for Plain {
 /// What the desk's call answers.
 pub fn skip_by_byte(bytes: &[u8], place: usize, depth: usize, type_byte: u8) -> Answer {
     if place > bytes.len() {
-        return skip_refused(Refusal::StartBeyond, place, 0);
+        return skip_refused(Kind::StartBeyond, place, 0);
     }
     if depth > DEEPEST {
-        return skip_refused(Refusal::DepthBeyond, place, 0);
+        return skip_refused(Kind::DepthBeyond, place, 0);
     }
     match TType::from_byte(type_byte) {
         Some(kind) => skip::skip(bytes, place, kind, depth, 0, &Limits::DEFAULT),
-        None => skip_refused(Refusal::UnknownType, place, 0),
+        None => skip_refused(Kind::UnknownType, place, 0),
     }
 }
 
@@ -69,7 +69,7 @@ fn read(call: &ReadCall<'_>) -> Answer {
         return build(&call.limits);
     }
     if call.place > call.bytes.len() {
-        return Answer::refused(Refusal::StartBeyond, call.place);
+        return Answer::refused(Kind::StartBeyond, call.place);
     }
     let takes_structs = matches!(
         call.step,
@@ -78,7 +78,7 @@ fn read(call: &ReadCall<'_>) -> Answer {
     let too_deep = (call.step == ReadStep::Skip && call.depth > DEEPEST)
         || (takes_structs && call.struct_depth > MOST_STRUCTS);
     if too_deep {
-        return Answer::refused(Refusal::DepthBeyond, call.place);
+        return Answer::refused(Kind::DepthBeyond, call.place);
     }
     if call.step == ReadStep::Skip {
         let (kind, depth) = (call.kind, call.depth);
@@ -93,14 +93,14 @@ fn read(call: &ReadCall<'_>) -> Answer {
     }
     match step(call) {
         Ok((values, end)) => Answer::accepted(end, values),
-        Err(refused) => Answer::refused(refused.refusal, refused.place),
+        Err(refused) => Answer::refused(refused.kind, refused.place),
     }
 }
 
 fn build(limits: &Limits) -> Answer {
     match (limits.frame, limits.message) {
         (Some(frame), Some(message)) if frame > message => {
-            Answer::refused(Refusal::FrameAboveMessage, 0)
+            Answer::refused(Kind::FrameAboveMessage, 0)
         }
         _ => Answer::accepted(0, [0; 4]),
     }

@@ -1,7 +1,7 @@
 //! Big-endian numbers.
 
 use turmyshge::steps::TType;
-use turmyshge::Refusal;
+use turmyshge::Kind;
 
 use super::{refuse, Read};
 
@@ -13,7 +13,7 @@ pub const NAN: u64 = 0x7ff8_0000_0000_0000;
 pub fn item<const N: usize>(bytes: &[u8], at: usize) -> Read<[u8; N]> {
     match bytes.get(at..).and_then(|rest| rest.first_chunk::<N>()) {
         Some(found) => Ok((*found, at + N)),
-        None => refuse(Refusal::ShortInput, at),
+        None => refuse(Kind::ShortInput, at),
     }
 }
 
@@ -57,7 +57,7 @@ pub fn scalar(bytes: &[u8], at: usize, kind: TType) -> Read<[u64; 4]> {
         TType::I32 => unsigned::<4>(bytes, at),
         TType::I64 => unsigned::<8>(bytes, at),
         TType::Double => double(bytes, at),
-        _ => refuse(Refusal::WrongType, at),
+        _ => refuse(Kind::WrongType, at),
     }?;
     Ok(([kind.byte().into(), value, 0, 0], end))
 }

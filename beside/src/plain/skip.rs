@@ -1,7 +1,7 @@
 //! The skip.
 
-use turmyshge::steps::{Answer, Limits, StepRefused, TType};
-use turmyshge::Refusal;
+use turmyshge::steps::{Answer, Limits, StepRefusal, TType};
+use turmyshge::Kind;
 
 use super::{header, refuse, text};
 use crate::port::skip_refused;
@@ -31,17 +31,17 @@ pub fn skip(
     };
     match walk.value(at, kind, depth) {
         Ok(end) => Answer::accepted(end, [walk.count, open as u64, 0, 0]),
-        Err(refused) => skip_refused(refused.refusal, refused.place, walk.count),
+        Err(refused) => skip_refused(refused.kind, refused.place, walk.count),
     }
 }
 
-type Passed = Result<usize, StepRefused>;
+type Passed = Result<usize, StepRefusal>;
 
 impl Walk<'_> {
     fn value(&mut self, at: usize, kind: TType, depth: usize) -> Passed {
         self.count += 1;
         let Some(below) = depth.checked_sub(1) else {
-            return refuse(Refusal::SkipDepth, at);
+            return refuse(Kind::SkipDepth, at);
         };
         match kind {
             TType::Bool | TType::I08 => self.fixed(at, 1),
@@ -53,7 +53,7 @@ impl Walk<'_> {
             TType::Struct => self.fields(at, below),
             TType::List | TType::Set => self.items(at, below),
             TType::Map => self.pairs(at, below),
-            TType::Stop | TType::Void | TType::Utf7 => refuse(Refusal::WrongType, at),
+            TType::Stop | TType::Void | TType::Utf7 => refuse(Kind::WrongType, at),
         }
     }
 

@@ -3,7 +3,7 @@
 use std::ops::Range;
 
 use turmyshge::steps::Limits;
-use turmyshge::Refusal;
+use turmyshge::Kind;
 
 use super::number::unsigned;
 use super::{refuse, Read};
@@ -18,7 +18,7 @@ pub fn values((body, end): (Range<usize>, usize)) -> ([u64; 4], usize) {
 pub fn size(bytes: &[u8], at: usize) -> Read<usize> {
     let (bits, end) = unsigned::<4>(bytes, at)?;
     if bits > i32::MAX as u64 {
-        return refuse(Refusal::NegativeSize, at);
+        return refuse(Kind::NegativeSize, at);
     }
     Ok((bits as usize, end))
 }
@@ -27,7 +27,7 @@ pub fn size(bytes: &[u8], at: usize) -> Read<usize> {
 #[inline]
 pub fn body(bytes: &[u8], at: usize, length: usize) -> Read<Range<usize>> {
     if bytes.len() - at < length {
-        return refuse(Refusal::ShortInput, at);
+        return refuse(Kind::ShortInput, at);
     }
     Ok((at..at + length, at + length))
 }
@@ -37,7 +37,7 @@ pub fn body(bytes: &[u8], at: usize, length: usize) -> Read<Range<usize>> {
 pub fn bytes(bytes: &[u8], at: usize, limits: &Limits) -> Read<Range<usize>> {
     let (length, start) = size(bytes, at)?;
     if limits.string.is_some_and(|limit| length > limit) {
-        return refuse(Refusal::StringLimit, at);
+        return refuse(Kind::StringLimit, at);
     }
     body(bytes, start, length)
 }
@@ -54,7 +54,7 @@ pub fn utf8(bytes: &[u8], part: Range<usize>) -> Read<()> {
     let (start, end) = (part.start, part.end);
     match std::str::from_utf8(&bytes[part]) {
         Ok(_) => Ok(((), end)),
-        Err(_) => refuse(Refusal::NotUtf8, start),
+        Err(_) => refuse(Kind::NotUtf8, start),
     }
 }
 

@@ -1,7 +1,7 @@
 //! The writers. Each finds out its whole output first, then asks for room once.
 
-use turmyshge::steps::{StepRefused, TType, WriteCall, WriteStep};
-use turmyshge::Refusal;
+use turmyshge::steps::{StepRefusal, TType, WriteCall, WriteStep};
+use turmyshge::Kind;
 
 use super::number::one_nan;
 use super::{header, refuse, MOST_STRUCTS};
@@ -10,13 +10,13 @@ use super::{header, refuse, MOST_STRUCTS};
 const LONGEST: usize = 0x7fff_ffff;
 
 /// A value (the new struct depth, or 0) and the place after what was written.
-type Written = Result<(u64, usize), StepRefused>;
+type Written = Result<(u64, usize), StepRefusal>;
 
 /// Makes a write: where it may start and how deep it may be, what it is told, the step, the room.
 pub fn write(call: &WriteCall<'_>, out: &mut [u8]) -> Written {
     let at = call.place;
     if at > out.len() {
-        return refuse(Refusal::StartBeyond, at);
+        return refuse(Kind::StartBeyond, at);
     }
     if matches!(call.step, WriteStep::StructBegin | WriteStep::StructEnd) {
         return depth(call);
@@ -50,7 +50,7 @@ pub fn write(call: &WriteCall<'_>, out: &mut [u8]) -> Written {
 
 fn depth(call: &WriteCall<'_>) -> Written {
     if call.struct_depth > MOST_STRUCTS {
-        return refuse(Refusal::DepthBeyond, call.place);
+        return refuse(Kind::DepthBeyond, call.place);
     }
     let depth = match call.step {
         WriteStep::StructBegin => header::struct_begin(call.place, call.struct_depth, call.structs),
@@ -60,21 +60,21 @@ fn depth(call: &WriteCall<'_>) -> Written {
 }
 
 /// Refuses what can't be written whatever the room: 16, then 17, then 13.
-fn told(call: &WriteCall<'_>) -> Result<(), StepRefused> {
+fn told(call: &WriteCall<'_>) -> Result<(), StepRefusal> {
     let is_name = matches!(call.step, WriteStep::MessageBegin | WriteStep::String);
     let is_sized = is_name || matches!(call.step, WriteStep::Bytes | WriteStep::Frame);
     if is_sized && call.text.len() > LONGEST {
-        return refuse(Refusal::TooLong, call.place);
+        return refuse(Kind::TooLong, call.place);
     }
     let id_missing =
         call.step == WriteStep::FieldBegin && call.absent.first && call.kind != TType::Stop as u8;
     let type_missing =
         call.step == WriteStep::MapBegin && (call.absent.first || call.absent.second);
     if id_missing || type_missing {
-        return refuse(Refusal::Missing, call.place);
+        return refuse(Kind::Missing, call.place);
     }
     if is_name && std::str::from_utf8(call.text).is_err() {
-        return refuse(Refusal::NotUtf8, 0);
+        return refuse(Kind::NotUtf8, 0);
     }
     Ok(())
 }
@@ -112,7 +112,7 @@ fn field(call: &WriteCall<'_>, out: &mut [u8]) -> Written {
 fn put(out: &mut [u8], place: usize, parts: &[&[u8]]) -> Written {
     let needed: usize = parts.iter().map(|part| part.len()).sum();
     if out.len() - place < needed {
-        return refuse(Refusal::OutputFull, place);
+        return refuse(Kind::OutputFull, place);
     }
     let mut at = place;
     for part in parts {

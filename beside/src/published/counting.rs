@@ -22,12 +22,12 @@ pub struct Counting<'a> {
 }
 
 impl<'a> Counting<'a> {
-    /// A count of nothing yet, with `open` structs open.
-    pub fn new(inner: TBinaryInputProtocol<Lent<'a>>, open: u64) -> Counting<'a> {
+    /// A count of nothing yet, by a fresh reader.
+    pub fn new(inner: TBinaryInputProtocol<Lent<'a>>) -> Counting<'a> {
         Counting {
             inner,
             begun: 0,
-            open,
+            open: 0,
         }
     }
 }
@@ -87,7 +87,8 @@ impl TInputProtocol for Counting<'_> {
 
     fn read_struct_end(&mut self) -> Result<()> {
         self.inner.read_struct_end()?;
-        self.open -= 1;
+        // as the crate's own depth does where none is open
+        self.open = self.open.wrapping_sub(1);
         Ok(())
     }
 

@@ -1,7 +1,7 @@
-//! A transport over lent bytes that remembers where its last read started.
+//! Transports over lent bytes: one that remembers where its last read started, one that knows its room.
 
 use std::fmt;
-use std::io::{self, Read};
+use std::io::{self, Read, Write};
 
 /// Bytes, a place in them, and the last item asked for.
 pub struct Lent<'a> {
@@ -44,5 +44,33 @@ impl Read for Lent<'_> {
 impl fmt::Debug for Lent<'_> {
     fn fmt(&self, f: &mut fmt::Formatter<'_>) -> fmt::Result {
         f.write_str("Lent")
+    }
+}
+
+/// The rest of a buffer to write to.
+pub struct Room<'a> {
+    /// What is not yet written.
+    pub rest: &'a mut [u8],
+}
+
+// As a slice writes, which leaves the bytes that fit when not all do.
+impl Write for Room<'_> {
+    fn write(&mut self, bytes: &[u8]) -> io::Result<usize> {
+        self.rest.write(bytes)
+    }
+
+    fn write_all(&mut self, bytes: &[u8]) -> io::Result<()> {
+        self.rest.write_all(bytes)
+    }
+
+    fn flush(&mut self) -> io::Result<()> {
+        self.rest.flush()
+    }
+}
+
+// A slice would print all its bytes.
+impl fmt::Debug for Room<'_> {
+    fn fmt(&self, f: &mut fmt::Formatter<'_>) -> fmt::Result {
+        f.write_str("Room")
     }
 }

@@ -5,11 +5,13 @@ mod frames;
 mod lent;
 mod reads;
 mod refusals;
+mod series;
 mod takes;
 mod types;
 mod writes;
 
 pub use reads::read;
+pub use series::{reads, writes, written};
 pub use takes::take;
 pub use types::ttype;
 pub use writes::{put, write, Writer};
@@ -32,6 +34,11 @@ pub enum Theirs {
 impl Theirs {
     fn accepted(end: usize, values: [u64; 4]) -> Theirs {
         Theirs::Answered(Answer::accepted(end, values))
+    }
+
+    /// Whether that is what the crate answered.
+    pub fn is(&self, answer: &Answer) -> bool {
+        matches!(self, Theirs::Answered(theirs) if theirs == answer)
     }
 }
 

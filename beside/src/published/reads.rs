@@ -1,17 +1,19 @@
 //! Reads by the crate.
 
+use std::fmt::{self, Write as _};
+
 use thrift::protocol::{TBinaryInputProtocol, TInputProtocol, TMessageIdentifier, TMessageType};
 use thrift::TConfiguration;
 use turmyshge::steps::{Answer, Limits, ReadCall, ReadStep, TType};
-use turmyshge::Refusal;
+use turmyshge::Kind;
 
 use super::counting::Counting;
 use super::lent::Lent;
 use super::types::{byte, ttype};
 use super::{frames, refusals, Theirs};
 
-/// The crate's binary reader.
-type Reader<'a> = TBinaryInputProtocol<Lent<'a>>;
+/// The crate's binary reader, counting.
+type Reader<'a> = Counting<'a>;
 
 /// The crate's record of the limits that a reader looks at.
 pub(super) fn config(limits: &Limits) -> TConfiguration {
@@ -25,23 +27,24 @@ pub(super) fn config(limits: &Limits) -> TConfiguration {
         .expect("no frame limit, so none above the message limit")
 }
 
-/// A fresh reader at the call's place, with the call's structs opened; none where the limit does not let them be.
-fn reader<'a>(call: &ReadCall<'a>) -> Option<Reader<'a>> {
+/// A fresh reader at the call's place.
+#[inline]
+pub(super) fn fresh<'a>(call: &ReadCall<'a>) -> Reader<'a> {
     let lent = Lent::new(call.bytes, call.place);
-    let mut reader = Reader::with_config(lent, call.strict, config(&call.limits));
-    for _ in 0..call.struct_depth {
-        reader.read_struct_begin().ok()?;
-    }
-    Some(reader)
+    let config = config(&call.limits);
+    Reader::new(TBinaryInputProtocol::with_config(lent, call.strict, config))
 }
 
-/// The struct depth that the crate keeps to itself, as it prints it.
-pub(super) fn depth_of(printed: &str) -> u64 {
-    let after = printed.rsplit("recursion_depth: ").next();
-    let digits = after.and_then(|rest| rest.split(|c: char| !c.is_ascii_digit()).next());
-    digits
-        .and_then(|number| number.parse().ok())
-        .expect("the crate prints its depth")
+/// The struct depth that the crate keeps to itself, as it prints it: last of all.
+pub(super) fn depth_of(keeper: &impl fmt::Debug) -> u64 {
+    // with room for all of it from the start, as this is asked some hundred million times
+    let mut printed = String::with_capacity(512);
+    let _ = write!(printed, "{keeper:?}");
+    let without_end = printed.trim_end_matches(" }");
+    let before = without_end.trim_end_matches(|c: char| c.is_ascii_digit());
+    assert!(before.ends_with("recursion_depth: "), "{printed}");
+    let digits = &without_end[before.len()..];
+    digits.parse().expect("the crate prints its depth")
 }
 
 fn refused(error: &thrift::Error, lent: &Lent<'_>) -> Theirs {
@@ -63,16 +66,27 @@ pub fn read(call: &ReadCall<'_>) -> Theirs {
     if out_of_reach {
         return Theirs::NoCall;
     }
-    let fresh = ReadCall {
-        struct_depth: if uses_structs { call.struct_depth } else { 0 },
-        ..*call
-    };
     match call.step {
         ReadStep::Frame => frames::read(call.bytes, call.place),
         ReadStep::Limits => build(&call.limits),
         ReadStep::Type => read_type(call),
-        ReadStep::Skip => reader(&fresh).map_or(Theirs::NoCall, |r| skip(call, r)),
-        _ => reader(&fresh).map_or(Theirs::NoCall, |r| read_one(call, r)),
+        _ => {
+            let structs = if uses_structs { call.struct_depth } else { 0 };
+            let mut reader = fresh(call);
+            // no fresh reader gets to more than its limit
+            if (0..structs).any(|_| reader.read_struct_begin().is_err()) {
+                return Theirs::NoCall;
+            }
+            read_by(call, &mut reader)
+        }
+    }
+}
+
+/// Makes a read or a skip by a reader that stands where the call starts, with the call's structs open.
+pub(super) fn read_by(call: &ReadCall<'_>, reader: &mut Reader<'_>) -> Theirs {
+    match call.step {
+        ReadStep::Skip => skip(call, reader),
+        _ => read_one(call, reader),
     }
 }
 
@@ -100,7 +114,7 @@ fn read_type(call: &ReadCall<'_>) -> Theirs {
         return read(&short);
     };
     let header = [*first, 0, 0];
-    let mut reader = Reader::new(Lent::new(&header, 0), true);
+    let mut reader = TBinaryInputProtocol::new(Lent::new(&header, 0), true);
     match reader.read_field_begin() {
         Ok(field) => Theirs::accepted(call.place + 1, [byte(field.field_type), 0, 0, 0]),
         Err(error) => match refusals::refusal(&error) {
@@ -110,39 +124,37 @@ fn read_type(call: &ReadCall<'_>) -> Theirs {
     }
 }
 
-fn skip(call: &ReadCall<'_>, reader: Reader<'_>) -> Theirs {
-    let mut counting = Counting::new(reader, call.struct_depth as u64);
+fn skip(call: &ReadCall<'_>, reader: &mut Reader<'_>) -> Theirs {
     let depth = i8::try_from(call.depth).expect("tested before");
-    let skipped = counting.skip_till_depth(ttype(call.kind), depth);
-    let lent = &counting.inner.transport;
+    let before = reader.begun;
+    let skipped = reader.skip_till_depth(ttype(call.kind), depth);
+    let begun = reader.begun - before;
+    let lent = &reader.inner.transport;
     let Err(error) = skipped else {
-        return Theirs::accepted(lent.at, [counting.begun, counting.open, 0, 0]);
+        return Theirs::accepted(lent.at, [begun, reader.open, 0, 0]);
     };
     let theirs = refused(&error, lent);
     let Theirs::Answered(answer) = theirs else {
         return theirs;
     };
     // these two end a value that was begun by no call
-    let silent = matches!(
-        answer.refusal,
-        Some(Refusal::SkipDepth | Refusal::WrongType)
-    );
-    let count = counting.begun + u64::from(silent);
+    let silent = matches!(answer.refusal, Some(Kind::SkipDepth | Kind::WrongType));
     Theirs::Answered(Answer {
-        values: [count, 0, 0, 0],
+        values: [begun + u64::from(silent), 0, 0, 0],
         ..answer
     })
 }
 
-fn read_one(call: &ReadCall<'_>, mut reader: Reader<'_>) -> Theirs {
-    let values = number(call.step, &mut reader)
-        .or_else(|| scalar(call, &mut reader))
-        .or_else(|| part(call, &mut reader))
-        .or_else(|| header(call.step, &mut reader));
+fn read_one(call: &ReadCall<'_>, reader: &mut Reader<'_>) -> Theirs {
+    let values = number(call.step, reader)
+        .or_else(|| scalar(call, reader))
+        .or_else(|| part(call, reader))
+        .or_else(|| header(call.step, reader));
+    let lent = &reader.inner.transport;
     match values {
         None => Theirs::NoCall,
-        Some(Ok(values)) => Theirs::accepted(reader.transport.at, values),
-        Some(Err(error)) => refused(&error, &reader.transport),
+        Some(Ok(values)) => Theirs::accepted(lent.at, values),
+        Some(Err(error)) => refused(&error, lent),
     }
 }
 
@@ -200,11 +212,11 @@ fn part(call: &ReadCall<'_>, reader: &mut Reader<'_>) -> Option<Values> {
         ReadStep::Uuid => reader.read_uuid().map(|uuid| uuid.as_bytes().to_vec()),
         ReadStep::MessageBegin => {
             let message = reader.read_message_begin();
-            return Some(message.and_then(|m| message_values(call, &m, reader.transport.at)));
+            return Some(message.and_then(|m| message_values(call, &m, reader.inner.transport.at)));
         }
         _ => return None,
     };
-    let at = reader.transport.at;
+    let at = reader.inner.transport.at;
     let found = body.and_then(|body| span(call, &body, at, 0));
     Some(found.map(|[start, end]| [start, end, 0, 0]))
 }
@@ -249,5 +261,5 @@ fn header(step: ReadStep, reader: &mut Reader<'_>) -> Option<Values> {
 }
 
 fn depth_values(reader: &Reader<'_>) -> [u64; 4] {
-    [depth_of(&format!("{reader:?}")), 0, 0, 0]
+    [depth_of(&reader.inner), 0, 0, 0]
 }

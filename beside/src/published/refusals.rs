@@ -4,12 +4,12 @@ use thrift::{
     ApplicationErrorKind, Error, ProtocolError, ProtocolErrorKind, TransportError,
     TransportErrorKind,
 };
-use turmyshge::Refusal;
+use turmyshge::Kind;
 
 use super::lent::Lent;
 
 /// An error's kind, how its text begins and ends, and the refusal that it is.
-type Row<K> = (K, &'static str, &'static str, Refusal);
+type Row<K> = (K, &'static str, &'static str, Kind);
 
 const TRANSPORT: [Row<TransportErrorKind>; 4] = {
     use TransportErrorKind as K;
@@ -18,20 +18,15 @@ const TRANSPORT: [Row<TransportErrorKind>; 4] = {
             K::EndOfFile,
             "failed to fill whole buffer",
             "",
-            Refusal::ShortInput,
+            Kind::ShortInput,
         ),
-        (
-            K::Unknown,
-            "Negative frame size: ",
-            "",
-            Refusal::NegativeSize,
-        ),
-        (K::Unknown, "Frame size ", "", Refusal::FrameLimit),
+        (K::Unknown, "Negative frame size: ", "", Kind::NegativeSize),
+        (K::Unknown, "Frame size ", "", Kind::FrameLimit),
         (
             K::Unknown,
             "failed to write whole buffer",
             "",
-            Refusal::OutputFull,
+            Kind::OutputFull,
         ),
     ]
 };
@@ -43,78 +38,73 @@ const PROTOCOL: [Row<ProtocolErrorKind>; 15] = {
             K::BadVersion,
             "received bad version: ",
             "",
-            Refusal::BadVersion,
+            Kind::BadVersion,
         ),
         (
             K::InvalidData,
             "cannot convert ",
             " to TMessageType",
-            Refusal::BadMessageType,
+            Kind::BadMessageType,
         ),
         (
             K::InvalidData,
             "cannot convert ",
             " to TType",
-            Refusal::UnknownType,
+            Kind::UnknownType,
         ),
         (
             K::InvalidData,
             "invalid utf-8 sequence of ",
             "",
-            Refusal::NotUtf8,
+            Kind::NotUtf8,
         ),
         (
             K::InvalidData,
             "incomplete utf-8 byte sequence ",
             "",
-            Refusal::NotUtf8,
+            Kind::NotUtf8,
         ),
         (
             K::NegativeSize,
             "Negative byte array size: ",
             "",
-            Refusal::NegativeSize,
+            Kind::NegativeSize,
         ),
         (
             K::NegativeSize,
             "Negative container size: ",
             "",
-            Refusal::NegativeSize,
+            Kind::NegativeSize,
         ),
-        (K::SizeLimit, "Byte array size ", "", Refusal::StringLimit),
-        (K::SizeLimit, "Message name size ", "", Refusal::StringLimit),
-        (K::SizeLimit, "Container size ", "", Refusal::ContainerLimit),
+        (K::SizeLimit, "Byte array size ", "", Kind::StringLimit),
+        (K::SizeLimit, "Message name size ", "", Kind::StringLimit),
+        (K::SizeLimit, "Container size ", "", Kind::ContainerLimit),
         (
             K::SizeLimit,
             "Container would require ",
             "",
-            Refusal::MessageLimit,
+            Kind::MessageLimit,
         ),
-        (K::DepthLimit, "cannot parse past ", "", Refusal::SkipDepth),
+        (K::DepthLimit, "cannot parse past ", "", Kind::SkipDepth),
         (
             K::DepthLimit,
             "Maximum recursion depth ",
             "",
-            Refusal::StructDepth,
+            Kind::StructDepth,
         ),
-        (
-            K::Unknown,
-            "cannot skip field type ",
-            "",
-            Refusal::WrongType,
-        ),
-        (K::Unknown, "cannot write identifier ", "", Refusal::Missing),
+        (K::Unknown, "cannot skip field type ", "", Kind::WrongType),
+        (K::Unknown, "cannot write identifier ", "", Kind::Missing),
     ]
 };
 
-fn look_up<K: PartialEq + Copy>(rows: &[Row<K>], kind: K, text: &str) -> Option<Refusal> {
+fn look_up<K: PartialEq + Copy>(rows: &[Row<K>], kind: K, text: &str) -> Option<Kind> {
     rows.iter()
         .find(|(k, begin, end, _)| *k == kind && text.starts_with(begin) && text.ends_with(end))
         .map(|row| row.3)
 }
 
 /// The refusal that an error is, if the rules know it.
-pub fn refusal(error: &Error) -> Option<Refusal> {
+pub fn refusal(error: &Error) -> Option<Kind> {
     match error {
         Error::Transport(TransportError { kind, message }) => look_up(&TRANSPORT, *kind, message),
         Error::Protocol(ProtocolError { kind, message }) => look_up(&PROTOCOL, *kind, message),
@@ -122,19 +112,19 @@ pub fn refusal(error: &Error) -> Option<Refusal> {
             if e.kind == ApplicationErrorKind::Unknown
                 && e.message.starts_with("Invalid configuration: ") =>
         {
-            Some(Refusal::FrameAboveMessage)
+            Some(Kind::FrameAboveMessage)
         }
         _ => None,
     }
 }
 
 /// Where a refused read's fault stands, as the crate's own reads tell it.
-pub fn place(refusal: Refusal, lent: &Lent<'_>) -> usize {
+pub fn place(refusal: Kind, lent: &Lent<'_>) -> usize {
     match refusal {
         // the last byte read, alone or as the fourth of a header
-        Refusal::BadMessageType => lent.at - 1,
+        Kind::BadMessageType => lent.at - 1,
         // nothing of the value was read yet
-        Refusal::SkipDepth | Refusal::StructDepth | Refusal::WrongType => lent.at,
+        Kind::SkipDepth | Kind::StructDepth | Kind::WrongType => lent.at,
         _ => lent.item,
     }
 }

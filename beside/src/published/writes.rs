@@ -9,6 +9,7 @@ use thrift::protocol::{
 use thrift::transport::TWriteTransport;
 use turmyshge::steps::{Answer, Limits, TType, WriteCall, WriteStep};
 
+use super::lent::Room;
 use super::reads::{config, depth_of};
 use super::types::ttype;
 use super::{frames, refusals, Theirs};
@@ -16,18 +17,14 @@ use super::{frames, refusals, Theirs};
 /// The crate's binary writer.
 pub type Writer<T> = TBinaryOutputProtocol<T>;
 
-fn writer<T: TWriteTransport>(transport: T, call: &WriteCall<'_>) -> Option<Writer<T>> {
+/// A fresh writer at the call's place in `out`.
+pub(super) fn fresh<'a>(out: &'a mut [u8], call: &WriteCall<'_>) -> Writer<Room<'a>> {
     let limits = Limits {
         structs: call.structs,
         ..Limits::DEFAULT
     };
-    let mut writer = Writer::with_config(transport, call.strict, config(&limits));
-    if matches!(call.step, WriteStep::StructBegin | WriteStep::StructEnd) {
-        for _ in 0..call.struct_depth {
-            writer.write_struct_begin(&no_name()).ok()?;
-        }
-    }
-    Some(writer)
+    let rest = &mut out[call.place..];
+    Writer::with_config(Room { rest }, call.strict, config(&limits))
 }
 
 fn no_name() -> TStructIdentifier {
@@ -50,15 +47,29 @@ pub fn write(call: &WriteCall<'_>, out: &mut [u8]) -> Theirs {
         return write_frame(call, out);
     }
     let length = out.len();
-    let Some(mut writer) = writer(&mut out[call.place..], call) else {
+    let uses_structs = matches!(call.step, WriteStep::StructBegin | WriteStep::StructEnd);
+    let structs = if uses_structs { call.struct_depth } else { 0 };
+    let mut writer = fresh(out, call);
+    // no fresh writer gets to more than its limit
+    if (0..structs).any(|_| writer.write_struct_begin(&no_name()).is_err()) {
         return Theirs::NoCall;
-    };
+    }
     let Ok(written) = catch_unwind(AssertUnwindSafe(|| put(&mut writer, call))) else {
         return Theirs::Panicked;
     };
-    let end = length - writer.transport.len();
+    told(call, written, &writer, length)
+}
+
+/// What came of a write by this writer into a buffer of `length` bytes, in the port's terms.
+pub(super) fn told(
+    call: &WriteCall<'_>,
+    written: thrift::Result<()>,
+    writer: &Writer<Room<'_>>,
+    length: usize,
+) -> Theirs {
+    let end = length - writer.transport.rest.len();
     match written {
-        Ok(()) => Theirs::accepted(end, [new_depth(call, &writer), 0, 0, 0]),
+        Ok(()) => Theirs::accepted(end, [new_depth(call, writer), 0, 0, 0]),
         Err(error) => match refusals::refusal(&error) {
             Some(refusal) => Theirs::Answered(Answer::refused(refusal, call.place)),
             None => Theirs::Strange(format!("{error:?}")),
@@ -67,9 +78,9 @@ pub fn write(call: &WriteCall<'_>, out: &mut [u8]) -> Theirs {
 }
 
 /// The depth after a struct's begin or end; no other step answers a value.
-fn new_depth(call: &WriteCall<'_>, writer: &Writer<&mut [u8]>) -> u64 {
+fn new_depth(call: &WriteCall<'_>, writer: &Writer<Room<'_>>) -> u64 {
     match call.step {
-        WriteStep::StructBegin | WriteStep::StructEnd => depth_of(&format!("{writer:?}")),
+        WriteStep::StructBegin | WriteStep::StructEnd => depth_of(writer),
         _ => 0,
     }
 }

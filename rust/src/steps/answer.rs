@@ -3,21 +3,21 @@
 use std::error::Error;
 use std::fmt;
 
-use crate::Refusal;
+use crate::Kind;
 
 /// The answer of any step.
 ///
 /// ```
 /// use turmyshge::steps::Answer;
-/// use turmyshge::Refusal;
+/// use turmyshge::Kind;
 ///
 /// assert_eq!(Answer::accepted(4, [9, 0, 0, 0]).into_result(), Ok(([9, 0, 0, 0], 4)));
-/// assert_eq!(Answer::refused(Refusal::ShortInput, 4).into_result().unwrap_err().place, 4);
+/// assert_eq!(Answer::refused(Kind::ShortInput, 4).into_result().unwrap_err().place, 4);
 /// ```
 #[derive(Clone, Copy, Debug, PartialEq, Eq)]
 pub struct Answer {
     /// Why the call was refused, if it was.
-    pub refusal: Option<Refusal>,
+    pub refusal: Option<Kind>,
     /// The end where the call was accepted, the fault's place where it was not.
     pub place: usize,
     /// The step's values, as [`ReadStep`](super::ReadStep) and [`WriteStep`](super::WriteStep) list them; signed ones
@@ -28,20 +28,20 @@ pub struct Answer {
 /// A step was refused.
 ///
 /// ```
-/// use turmyshge::steps::StepRefused;
-/// use turmyshge::Refusal;
+/// use turmyshge::steps::StepRefusal;
+/// use turmyshge::Kind;
 ///
-/// let refused = StepRefused { refusal: Refusal::FrameLimit, place: 0 };
+/// let refused = StepRefusal { kind: Kind::FrameLimit, place: 0 };
 /// assert_eq!(
 ///     refused.to_string(),
 ///     "refusal 18: frame above the frame limit, at byte 0 (the frame header's first byte)"
 /// );
 /// ```
 #[derive(Clone, Copy, Debug, PartialEq, Eq)]
-pub struct StepRefused {
+pub struct StepRefusal {
     /// Why.
-    pub refusal: Refusal,
-    /// Where the fault stands; [`Refusal::points_at`] says what is there.
+    pub kind: Kind,
+    /// Where the fault stands; [`Kind::points_at`] says what is there.
     pub place: usize,
 }
 
@@ -56,7 +56,7 @@ impl Answer {
     }
 
     /// A call refused at `place`.
-    pub fn refused(refusal: Refusal, place: usize) -> Answer {
+    pub fn refused(refusal: Kind, place: usize) -> Answer {
         Answer {
             refusal: Some(refusal),
             place,
@@ -68,18 +68,18 @@ impl Answer {
     #[cfg(feature = "steps")]
     pub(crate) fn from_record([number, place, a, b, c, d]: [u64; 6]) -> Answer {
         Answer {
-            refusal: Refusal::in_record(number),
+            refusal: Kind::in_record(number),
             place: crate::skip::in_memory(place),
             values: [a, b, c, d],
         }
     }
 
     /// Values and end, or the refusal and its place.
-    pub fn into_result(self) -> Result<([u64; 4], usize), StepRefused> {
+    pub fn into_result(self) -> Result<([u64; 4], usize), StepRefusal> {
         match self.refusal {
             None => Ok((self.values, self.place)),
-            Some(refusal) => Err(StepRefused {
-                refusal,
+            Some(kind) => Err(StepRefusal {
+                kind,
                 place: self.place,
             }),
         }
@@ -99,16 +99,16 @@ impl fmt::Display for Answer {
     }
 }
 
-impl fmt::Display for StepRefused {
+impl fmt::Display for StepRefusal {
     fn fmt(&self, f: &mut fmt::Formatter<'_>) -> fmt::Result {
         write!(
             f,
             "{}, at byte {} ({})",
-            self.refusal,
+            self.kind,
             self.place,
-            self.refusal.points_at()
+            self.kind.points_at()
         )
     }
 }
 
-impl Error for StepRefused {}
+impl Error for StepRefusal {}

@@ -14,7 +14,7 @@ mod read_call;
 mod types;
 mod write_call;
 
-pub use answer::{Answer, StepRefused};
+pub use answer::{Answer, StepRefusal};
 pub use limits::Limits;
 #[cfg(feature = "steps")]
 pub use named_reads::*;
@@ -28,7 +28,7 @@ pub use write_call::{Absent, WriteCall, WriteStep};
 ///
 /// ```
 /// use turmyshge::steps::{read, ReadCall, ReadStep, TType};
-/// use turmyshge::Refusal;
+/// use turmyshge::Kind;
 ///
 /// // a skip of a list of two bytes, with room for no element
 /// let call = ReadCall {
@@ -36,7 +36,7 @@ pub use write_call::{Absent, WriteCall, WriteStep};
 ///     ..ReadCall::new(ReadStep::Skip, &[3, 0, 0, 0, 2, 5, 6], 0).of(TType::List)
 /// };
 /// let answer = read(&call);
-/// assert_eq!((answer.refusal, answer.place), (Some(Refusal::SkipDepth), 5));
+/// assert_eq!((answer.refusal, answer.place), (Some(Kind::SkipDepth), 5));
 /// ```
 #[cfg(feature = "steps")]
 pub fn read(call: &ReadCall<'_>) -> Answer {

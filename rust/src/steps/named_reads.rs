@@ -2,11 +2,11 @@
 
 use std::ops::Range;
 
-use super::{read, Limits, MessageType, ReadCall, ReadStep, StepRefused, TType};
+use super::{read, Limits, MessageType, ReadCall, ReadStep, StepRefusal, TType};
 use crate::skip::in_memory;
 
 /// A value and the place after it, or a refusal.
-pub type Read<T> = Result<(T, usize), StepRefused>;
+pub type Read<T> = Result<(T, usize), StepRefusal>;
 
 fn values(call: ReadCall<'_>) -> Read<[u64; 4]> {
     read(&call).into_result()
@@ -76,13 +76,13 @@ pub fn read_bytes(bytes: &[u8], place: usize, limits: Limits) -> Read<&[u8]> {
 ///
 /// ```
 /// use turmyshge::steps::{read_string, Limits};
-/// use turmyshge::Refusal;
+/// use turmyshge::Kind;
 ///
 /// let bytes = [0, 0, 0, 2, b'A', b'7'];
 /// assert_eq!(read_string(&bytes, 0, Limits::DEFAULT), Ok(("A7", 6)));
 ///
 /// let short = Limits { string: Some(1), ..Limits::DEFAULT };
-/// assert_eq!(read_string(&bytes, 0, short).unwrap_err().refusal, Refusal::StringLimit);
+/// assert_eq!(read_string(&bytes, 0, short).unwrap_err().kind, Kind::StringLimit);
 /// ```
 pub fn read_string(bytes: &[u8], place: usize, limits: Limits) -> Read<&str> {
     let (body, end) = part(ReadStep::String, bytes, place, limits)?;

@@ -1,10 +1,10 @@
 //! Writes by name. Each puts its bytes at a place in `out` and answers the place after them; refused, it leaves every
 //! byte of `out` as it was.
 
-use super::{write, Absent, MessageType, StepRefused, TType, WriteCall, WriteStep};
+use super::{write, Absent, MessageType, StepRefusal, TType, WriteCall, WriteStep};
 
 /// The place after what was written, or a refusal.
-pub type Written = Result<usize, StepRefused>;
+pub type Written = Result<usize, StepRefusal>;
 
 fn ended(call: WriteCall<'_>, out: &mut [u8]) -> Written {
     let answer = write(&call, out).expect("the named calls fit their steps");
@@ -94,13 +94,13 @@ pub fn write_uuid(out: &mut [u8], place: usize, uuid: [u8; 16]) -> Written {
 ///
 /// ```
 /// use turmyshge::steps::{write_field_begin, TType};
-/// use turmyshge::Refusal;
+/// use turmyshge::Kind;
 ///
 /// let mut out = [0; 3];
 /// assert_eq!(write_field_begin(&mut out, 0, TType::I32, Some(9)), Ok(3));
 /// assert_eq!(out, [0x08, 0, 9]);
 /// let refused = write_field_begin(&mut out, 0, TType::I32, None).unwrap_err();
-/// assert_eq!(refused.refusal, Refusal::Missing);
+/// assert_eq!(refused.kind, Kind::Missing);
 /// ```
 pub fn write_field_begin(out: &mut [u8], place: usize, kind: TType, id: Option<i16>) -> Written {
     let call = WriteCall {

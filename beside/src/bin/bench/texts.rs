@@ -22,9 +22,9 @@ pub fn rows(options: &Options) -> Vec<Row> {
             // whole characters only, filled up with one-byte ones
             let mut other = mixed.repeat(length / mixed.len());
             other.resize(length, b'z');
-            [("ASCII", ascii), ("mixed", other)].map(|(kind, text)| {
+            [("an ASCII", ascii), ("a mixed", other)].map(|(kind, text)| {
                 text_row(
-                    &format!("read a {kind} string of {length} bytes"),
+                    &format!("read {kind} string of {length} bytes"),
                     &text,
                     options,
                 )

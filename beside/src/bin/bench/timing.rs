@@ -87,6 +87,14 @@ fn in_words(nanoseconds: f64) -> String {
     }
 }
 
+/// A ratio of times. One that would be rounded to nothing is said to be small instead.
+fn ratio_in_words(ratio: f64) -> String {
+    if ratio < 0.005 {
+        return "under 0.01".into();
+    }
+    format!("{ratio:.2}")
+}
+
 /// The rows as a table in Markdown, with how they were timed.
 pub fn table(rows: &[Row], options: &Options) -> String {
     let cleared = if options.cleared {
@@ -100,7 +108,7 @@ pub fn table(rows: &[Row], options: &Options) -> String {
         options.runs
     );
     for row in rows {
-        let ratio = |time: f64| format!("{:.2}", time / row.published);
+        let ratio = |time: f64| ratio_in_words(time / row.published);
         let _ = writeln!(
             text,
             "| {} | {} | {} | {} | {} | {} |",
