@@ -1,6 +1,6 @@
 //! Compares the published crate with the port and prints what came of it.
 //!
-//! `compare [--threads N] [--rounds N] [--seed N] [--short] [--whole] [--try-wrong]`
+//! `compare [--threads N] [--rounds N] [--seed N] [--short] [--try-wrong]`
 
 use std::process::ExitCode;
 use std::time::Instant;
@@ -19,7 +19,6 @@ struct Arguments {
     rounds: u64,
     seed: u64,
     short: bool,
-    whole: bool,
     only_wrong: bool,
 }
 
@@ -29,7 +28,6 @@ fn arguments() -> Result<Arguments, String> {
         rounds: ROUNDS,
         seed: SEED,
         short: false,
-        whole: false,
         only_wrong: false,
     };
     let mut words = std::env::args().skip(1);
@@ -43,7 +41,6 @@ fn arguments() -> Result<Arguments, String> {
             "--rounds" => arguments.rounds = number()?,
             "--seed" => arguments.seed = number()?,
             "--short" => arguments.short = true,
-            "--whole" => arguments.whole = true,
             "--try-wrong" => arguments.only_wrong = true,
             _ => return Err(format!("no such argument: {word}")),
         }
@@ -62,8 +59,7 @@ fn compare(arguments: &Arguments) -> Tally {
     let ports = port::all();
     let mut sum = Tally::default();
     let wanted = |section: &&Section| match section.amount {
-        Amount::Most => !arguments.short,
-        Amount::Rest => arguments.whole,
+        Amount::Most | Amount::Rest => !arguments.short,
         _ => true,
     };
     for section in SECTIONS.iter().filter(wanted) {

@@ -47,7 +47,7 @@ pub enum Amount {
     Much,
     /// Shown in a minute or more.
     Most,
-    /// The same, and it can hardly find a fault that the others don't.
+    /// The same, for calls whose answer no byte decides.
     Rest,
     /// As many random values as are asked for.
     Asked,
