@@ -6,8 +6,7 @@ use borrow.Author.Tests.{eq-eqb, ne-eqb}
 use mathlib.Core.Bool.{Bool, true, false, cond}
 use lib.Dec.{eqb}
 use lib.ListN.{length}
-use Rattle.wire.specs.Answer.{Answer, gives, refused, andThen}
-use Rattle.wire.proofs.Answers.{went}
+use Rattle.wire.specs.Answer.{Answer, gives, refused, mapped}
 use Rattle.wire.proofs.Refusals.{refusalOf, told-back}
 use Rattle.wire.proofs.Unique.{settled}
 use Rattle.config.specs.declared.limit.Limit.{Limit}
@@ -28,11 +27,11 @@ module _ (limit : Limit) (s : List ℕ) (at : ℕ) where
 
   module _ (h : at ≡ length s → ⊥) where
     pub no-frame : {n p : ℕ} → refused n p ≡ sizedAt 18 limit s at → refused n p ≡ frameAt limit s at
-    unfolding frameAt andThen
+    unfolding frameAt
     no-frame e = simp (ne-eqb _ _ h, ← e)
 
     pub a-frame : {p : Span} {next : ℕ} → gives p next ≡ sizedAt 18 limit s at → gives (frame p) next ≡ frameAt limit s at
-    unfolding frameAt andThen
+    unfolding frameAt
     a-frame e = simp (ne-eqb _ _ h, ← e)
 
 -- a payload lies inside
@@ -40,12 +39,13 @@ pub payload-lies : (limit : Limit) (s : List ℕ) (at : ℕ) {p : Span} {q : ℕ
 unfolding frameAt
 payload-lies limit s at {p} {q} = go (eqb at (length s))
   where
-    go : (b : Bool) → gives (frame p) q ≡ cond b (gives end at) (andThen (sizedAt 18 limit s at) λ x next. gives (frame x) next) → Lies (length s) p
+    of-frame : (m : Answer Span) → gives (frame p) q ≡ mapped frame m → gives p q ≡ m
+    of-frame (gives v r) e = cc
+    of-frame (refused n r) e = clash (cc)
+
+    go : (b : Bool) → gives (frame p) q ≡ cond b (gives end at) (mapped frame (sizedAt 18 limit s at)) → Lies (length s) p
     go true e = clash (cc)
-    go false e =
-        let a = went (sizedAt 18 limit s at) _ e in
-        let same : p ≡ a .value = cc (a .on) in
-        rw same (sized-lies 18 limit s at (a .gave))
+    go false e = sized-lies 18 limit s at (of-frame _ e)
 
 module _ (payload : List ℕ) (at : ℕ) where
   pub empty : length payload ≡ 0 → gives [] at ≡ frameOutput payload at

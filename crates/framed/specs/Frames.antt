@@ -4,7 +4,7 @@ use mathlib.Core.Bool.{cond}
 use mathlib.Core.List.{List, []}
 use lib.Dec.{eqb}
 use lib.ListN.{length}
-use Rattle.wire.specs.Answer.{Answer, gives, refused, andThen}
+use Rattle.wire.specs.Answer.{Answer, gives, refused, mapped}
 use Rattle.config.specs.declared.limit.Limit.{Limit}
 use Rattle.text.specs.Texts.{sizedAt, bytesIn}
 use Rattle.text.specs.declared.Span.{Span}
@@ -19,8 +19,7 @@ pub data Next : Type 0 where
 unfoldable pub frameAt : Limit → List ℕ → ℕ → Answer Next
 frameAt limit s at =
     cond (eqb at (length s)) (gives end at)
-    (andThen (sizedAt 18 limit s at) λ payload next.
-    gives (frame payload) next)
+    (mapped frame (sizedAt 18 limit s at))
 
 -- the payload's bytes in what was read: none at the end, and none where the frame is refused
 abbrev pub payloadIn : List ℕ → Answer Next → List ℕ

@@ -5,7 +5,7 @@ use mathlib.Core.List.{List}
 use lib.Dec.{ltb, eqb}
 use lib.IntN.{ℤ}
 use lib.ListN.{getD}
-use Rattle.wire.specs.Answer.{Answer, gives, refused, refuseIf, andThen, within}
+use Rattle.wire.specs.Answer.{Answer, gives, refused, refuseIf, andThen, mapped, within}
 use Rattle.wire.specs.Codes.{messageOf}
 use Rattle.wire.specs.declared.codes.TMessageType.{TMessageType}
 use Rattle.wire.specs.declared.codes.Messaged.{Messaged}
@@ -59,5 +59,4 @@ messageAt strict limit s at =
 
 -- the name in what was read
 abbrev pub nameOf : Answer TMessageIdentifier → Answer Span
-nameOf (gives m next) = gives (m .name) next
-nameOf (refused n p) = refused n p
+nameOf m = mapped (λ (v : TMessageIdentifier). v .name) m

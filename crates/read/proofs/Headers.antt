@@ -2,13 +2,13 @@
 use Prim.Native.Nat.{ℕ, _+_, _*_, _-_, _^_, _<_, _≤_}
 use native.Mathlib.Nat.{mul-le-mul-left}
 use native.Mathlib.Omega.{arith}
-use mathlib.Core.Path.{_≡_}
+use mathlib.Core.Path.{_≡_, ap}
 use mathlib.Core.Bool.{true, false}
 use mathlib.Core.List.{List}
 use borrow.Author.Tests.{lt-ltb, le-ltb, eq-eqb, ne-eqb}
 use lib.IntN.{ℤ, pos, natAbs}
 use lib.ListN.{length}
-use Rattle.wire.specs.Answer.{gives, refused, refuseIf, andThen}
+use Rattle.wire.specs.Answer.{gives, refused, refuseIf, andThen, mapped}
 use Rattle.wire.specs.Codes.{typeOf, isStop, leastSize}
 use Rattle.wire.specs.declared.codes.TType.{TType}
 use Rattle.wire.specs.declared.codes.Typed.the-variants as Type-of
@@ -87,11 +87,11 @@ module _ (c : TConfiguration) (s : List ℕ) (at : ℕ) where
 
   pub no-set : {n p : ℕ} → refused n p ≡ listAt c s at → refused n p ≡ setAt c s at
   unfolding setAt
-  no-set e = first-fault _ e
+  no-set e = ap (mapped asSet) e
 
   pub a-set : {l : TListIdentifier} {end : ℕ} → gives l end ≡ listAt c s at → gives (asSet l) end ≡ setAt c s at
   unfolding setAt
-  a-set e = goes-on _ e
+  a-set e = ap (mapped asSet) e
 
   pub no-key-type : {n p : ℕ} → refused n p ≡ typeAt s at → refused n p ≡ mapAt c s at
   unfolding mapAt

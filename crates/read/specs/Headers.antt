@@ -1,10 +1,10 @@
 -- Headers: a type byte, a field, lists, sets and maps, struct begin and end, and the ends that take no bytes.
 use Prim.Native.Nat.{ℕ, _+_, _*_, _-_}
-use mathlib.Core.Bool.{Bool, true, false}
+use mathlib.Core.Bool.{cond}
 use mathlib.Core.List.{List}
 use lib.Dec.{ltb, eqb}
 use lib.IntN.{ℤ, pos, natAbs}
-use Rattle.wire.specs.Answer.{Answer, gives, refused, refuseIf, andThen, entry}
+use Rattle.wire.specs.Answer.{Answer, gives, refused, refuseIf, andThen, mapped, entry}
 use Rattle.wire.specs.Codes.{typeOf, isStop, leastSize}
 use Rattle.wire.specs.declared.codes.TType.{TType}
 use Rattle.wire.specs.declared.codes.Typed.{Typed}
@@ -31,14 +31,10 @@ abbrev pub field : TType → ℤ → TFieldIdentifier
 field t id = record { «field_type» = t; id = id }
 
 -- "00 is Stop with id 0 and nothing more; else a 16-bit id"
-abbrev pub stopOr : Bool → Answer TFieldIdentifier → Answer TFieldIdentifier → Answer TFieldIdentifier
-stopOr true stop more = stop
-stopOr false stop more = more
-
 unfoldable pub fieldAt : List ℕ → ℕ → Answer TFieldIdentifier
 fieldAt s at =
     andThen (typeAt s at) λ t next.
-    stopOr (isStop t) (gives (field t (pos 0)) next)
+    cond (isStop t) (gives (field t (pos 0)) next)
     (andThen (i16At s next) λ id end. gives (field t id) end)
 
 -- a number of elements of at least so many bytes each: "then 6, 8, 9", and rule 9 counts size times the least bytes
@@ -64,7 +60,7 @@ abbrev pub asSet : TListIdentifier → TSetIdentifier
 asSet l = record { «element_type» = l .«element_type»; size = l .size }
 
 unfoldable pub setAt : TConfiguration → List ℕ → ℕ → Answer TSetIdentifier
-setAt c s at = andThen (listAt c s at) λ l end. gives (asSet l) end
+setAt c s at = mapped asSet (listAt c s at)
 
 abbrev pub map : TType → TType → ℤ → TMapIdentifier
 map k v size = record { «key_type» = k; «value_type» = v; size = size }

@@ -10,8 +10,9 @@ use wire::cursor::Cursor;
 use wire::refusal::Kind;
 use wire::refusal::Refusal;
 ghost use mathlib.Core.Path.{_≡_};
-ghost use Rattle.scalar.specs.Scalars.{scalarAt, wrongAt, asBool, asI08, asI16, asI32, asI64, asDouble};
-ghost use Rattle.scalar.specs.Scalars.{toldScalar};
+ghost use Rattle.wire.specs.Answer.{mapped};
+ghost use Rattle.scalar.specs.Scalars.{scalarAt, wrongAt, toldScalar};
+ghost use Rattle.scalar.specs.declared.Scalar.the-variants as S;
 ghost use Rattle.number.specs.Told.{toldBool, toldI8, toldI16, toldI32, toldI64, toldDouble};
 
 pub enum Scalar {
@@ -29,7 +30,7 @@ pub enum ScalarRead {
 }
 
 fn of_bool(read: BoolRead) -> ScalarRead
-    ensures { λ r. ⌜ toldScalar r ≡ asBool (toldBool read) ⌝ }
+    ensures { λ r. ⌜ toldScalar r ≡ mapped S.Bool (toldBool read) ⌝ }
 {
     match read {
         BoolRead::Value(v, next) => ScalarRead::Value(Scalar::Bool(v), next),
@@ -38,7 +39,7 @@ fn of_bool(read: BoolRead) -> ScalarRead
 }
 
 fn of_i8(read: I8Read) -> ScalarRead
-    ensures { λ r. ⌜ toldScalar r ≡ asI08 (toldI8 read) ⌝ }
+    ensures { λ r. ⌜ toldScalar r ≡ mapped S.I08 (toldI8 read) ⌝ }
 {
     match read {
         I8Read::Value(v, next) => ScalarRead::Value(Scalar::I08(v), next),
@@ -47,7 +48,7 @@ fn of_i8(read: I8Read) -> ScalarRead
 }
 
 fn of_i16(read: I16Read) -> ScalarRead
-    ensures { λ r. ⌜ toldScalar r ≡ asI16 (toldI16 read) ⌝ }
+    ensures { λ r. ⌜ toldScalar r ≡ mapped S.I16 (toldI16 read) ⌝ }
 {
     match read {
         I16Read::Value(v, next) => ScalarRead::Value(Scalar::I16(v), next),
@@ -56,7 +57,7 @@ fn of_i16(read: I16Read) -> ScalarRead
 }
 
 fn of_i32(read: I32Read) -> ScalarRead
-    ensures { λ r. ⌜ toldScalar r ≡ asI32 (toldI32 read) ⌝ }
+    ensures { λ r. ⌜ toldScalar r ≡ mapped S.I32 (toldI32 read) ⌝ }
 {
     match read {
         I32Read::Value(v, next) => ScalarRead::Value(Scalar::I32(v), next),
@@ -65,7 +66,7 @@ fn of_i32(read: I32Read) -> ScalarRead
 }
 
 fn of_i64(read: I64Read) -> ScalarRead
-    ensures { λ r. ⌜ toldScalar r ≡ asI64 (toldI64 read) ⌝ }
+    ensures { λ r. ⌜ toldScalar r ≡ mapped S.I64 (toldI64 read) ⌝ }
 {
     match read {
         I64Read::Value(v, next) => ScalarRead::Value(Scalar::I64(v), next),
@@ -74,7 +75,7 @@ fn of_i64(read: I64Read) -> ScalarRead
 }
 
 fn of_double(read: DoubleRead) -> ScalarRead
-    ensures { λ r. ⌜ toldScalar r ≡ asDouble (toldDouble read) ⌝ }
+    ensures { λ r. ⌜ toldScalar r ≡ mapped S.Double (toldDouble read) ⌝ }
 {
     match read {
         DoubleRead::Value(v, next) => ScalarRead::Value(Scalar::Double(v), next),

@@ -3,7 +3,7 @@ use Prim.Native.Nat.{ℕ, _<_, _≤_}
 use mathlib.Core.Path.{_≡_, refl, sym, ap, subst}
 use mathlib.Core.List.{List}
 use native.Mathlib.Omega.{arith}
-use Rattle.wire.specs.Answer.{Answer, gives, refused, within}
+use Rattle.wire.specs.Answer.{Answer, gives, refused, judged, within}
 use Rattle.wire.specs.Shapes.{shapeOf}
 use Rattle.wire.specs.declared.codes.TType.{TType}
 use Rattle.wire.specs.declared.codes.TType.the-variants as T
@@ -16,10 +16,9 @@ use Rattle.config.specs.declared.limit.Limit.{Limit}
 use Rattle.text.specs.Texts.{limitedAt, bytesAt}
 use Rattle.text.proofs.Texts as texts
 use Rattle.text.specs.declared.Span.{Span}
-use Rattle.tree.specs.Answers.{Outcome, cut-off, judged, Answers}
+use Rattle.tree.specs.Answers.{Outcome, cut-off, leafOutcome, Answers}
 use Rattle.tree.proofs.Heads.{clash}
 use Rattle.tree.proofs.Steps as steps
-use Rattle.skip.specs.Told.{leafOutcome}
 
 -- an outcome that is known
 pub answers-as : (c : TConfiguration) (s : List ℕ) (at d sd : ℕ) (sh : Shape) {x y : Outcome} → x ≡ y → Answers c s at d sd sh y → Answers c s at d sd sh x

@@ -15,12 +15,12 @@ use wire::refusal::Refusal;
 use wire::shape::Shape;
 ghost use mathlib.Core.Path.{_≡_};
 ghost use Prim.Native.Nat.{_<_};
-ghost use Rattle.wire.specs.Answer.{within};
+ghost use Rattle.wire.specs.Answer.{judged, within};
 ghost use Rattle.wire.specs.Refusals.{kindNumber};
 ghost use Rattle.wire.specs.Shapes.{shapeOf};
 ghost use Rattle.text.specs.Texts.{bytesAt};
-ghost use Rattle.tree.specs.Answers.{judged, Answers, cut-off};
-ghost use Rattle.skip.specs.Told.{toldWalked, leafOutcome};
+ghost use Rattle.tree.specs.Answers.{leafOutcome, Answers, cut-off};
+ghost use Rattle.skip.specs.Told.{toldWalked};
 ghost use Rattle.skip.specs.Runs.{InRun};
 
 // The cursor past a value and the values in it, or the refusal and the values begun.

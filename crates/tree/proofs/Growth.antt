@@ -2,7 +2,7 @@
 -- what was given room. Assumes nothing.
 use Prim.Native.Nat.{ℕ, _+_, _-_, _*_, _≤_}
 use mathlib.Core.Path.{_≡_, refl, sym, ap, subst, _∙_}
-use mathlib.Core.Bool.{Bool, true, false}
+use mathlib.Core.Bool.{Bool, true, false, cond}
 use mathlib.Core.List.{List, [], _++_, append-nil}
 use lib.IntN.{ℤ, pos, natAbs}
 use lib.Signed.{ltZ}
@@ -13,7 +13,7 @@ use mir.Syntax.{w16, w32}
 use mir.Val.{toZ}
 use native.Mathlib.Omega.{arith}
 use borrow.Author.Tests.{le-ltb, ltb-false, ne-eqb, eqb-false}
-use Rattle.wire.specs.Answer.{Answer, gives, refused, refuseIf, andThen, within, itemAt}
+use Rattle.wire.specs.Answer.{Answer, gives, refused, refuseIf, andThen, judged, within, itemAt}
 use Rattle.wire.specs.Codes.{isStop, leastSize}
 use Rattle.wire.specs.declared.codes.TType.{TType}
 use Rattle.wire.specs.declared.shape.Shape.{Shape}
@@ -27,8 +27,8 @@ use Rattle.config.specs.declared.configuration.TConfiguration.{TConfiguration}
 use Rattle.config.proofs.Room.{still-within, still-below}
 use Rattle.text.specs.Texts.{sizeAt, sizedAt, bytesAt, limitedAt}
 use Rattle.text.proofs.Texts.{limited-is}
-use Rattle.read.specs.Headers.{typeAt, field, stopOr, fieldAt, countAt, listAt, mapAt, structBeginAt}
-use Rattle.tree.specs.Answers.{judged, shapeOwn, ownAt}
+use Rattle.read.specs.Headers.{typeAt, field, fieldAt, countAt, listAt, mapAt, structBeginAt}
+use Rattle.tree.specs.Answers.{shapeOwn, ownAt}
 use Rattle.tree.specs.Room.{Unnamed}
 use Rattle.tree.proofs.Heads.{clash, number-is, type-is}
 
@@ -117,8 +117,8 @@ module _ (K : ℕ → Type 0) (s x : List ℕ) (short : K 1 → x ≡ []) where
       grows-then K (typeAt s at) (typeAt (s ++ x) at) _ _ (type-grows at h) (λ t q e. by-stop t q (type-is s at e .part .within) (isStop t))
     where
       by-stop : (t : TType) (q : ℕ) → q ≤ length s → (b : Bool)
-          → Grows K (stopOr b (gives (field t (pos 0)) q) (andThen (i16At s q) λ id end. gives (field t id) end))
-          (stopOr b (gives (field t (pos 0)) q) (andThen (i16At (s ++ x) q) λ id end. gives (field t id) end))
+          → Grows K (cond b (gives (field t (pos 0)) q) (andThen (i16At s q) λ id end. gives (field t id) end))
+          (cond b (gives (field t (pos 0)) q) (andThen (i16At (s ++ x) q) λ id end. gives (field t id) end))
       by-stop t q i true = grows-same K _
       by-stop t q i false = grows-then K (i16At s q) (i16At (s ++ x) q) _ _ (number-grows 2 (toZ w16) q i) (λ id r e. grows-same K _)
 

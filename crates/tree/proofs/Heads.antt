@@ -1,7 +1,7 @@
 -- What the headers of `read` say of the bytes, and what the bytes of a tree say to them. Assumes nothing.
 use Prim.Native.Nat.{ℕ, _+_, _*_, _≤_, _<_}
 use mathlib.Core.Path.{_≡_, refl, sym, ap, subst₂, subst₃, _∙_}
-use mathlib.Core.Bool.{Bool, true, false}
+use mathlib.Core.Bool.{Bool, true, false, cond}
 use mathlib.Core.List.{List, [], _∷_, _++_}
 use lib.IntN.{ℤ, pos, natAbs}
 use lib.Signed.{ltZ}
@@ -34,7 +34,7 @@ use Rattle.wire.specs.declared.codes.TType.the-variants as T
 use Rattle.read.specs.declared.container.TListIdentifier.{TListIdentifier}
 use Rattle.read.specs.declared.container.TMapIdentifier.{TMapIdentifier}
 use Rattle.read.specs.declared.field.TFieldIdentifier.{TFieldIdentifier}
-use Rattle.read.specs.Headers.{known, typeAt, field, stopOr, fieldAt, countAt, list, listAt, map, mapAt, structBeginAt}
+use Rattle.read.specs.Headers.{known, typeAt, field, fieldAt, countAt, list, listAt, map, mapAt, structBeginAt}
 use Rattle.tree.specs.Part.{Part}
 use Rattle.tree.specs.Tree.{Reads, TextFits, SizeFits}
 use Rattle.tree.proofs.Parts.{part-run, part-to, part-is, part-join, part-length}
@@ -240,7 +240,7 @@ field-is s at {t} {v} {next} g h =
     go (a .value) (a .place) (type-is s at (a .gave)) (isStop (a .value)) refl (a .on)
   where
     go : (u : TType) (q : ℕ) → TypeIs s at u q → (b : Bool) → isStop u ≡ b
-        → gives (field t v) next ≡ stopOr b (gives (field u (pos 0)) q) (andThen (i16At s q) λ id end. gives (field u id) end) → FieldIs s at t next
+        → gives (field t v) next ≡ cond b (gives (field u (pos 0)) q) (andThen (i16At s q) λ id end. gives (field u id) end) → FieldIs s at t next
     go u q x true f e =
         let same : u ≡ t = ap (λ (l : Answer TFieldIdentifier). typeIn t l) (sym e) in
         clash (cc (sym f ∙ ap isStop same ∙ g))
@@ -265,7 +265,7 @@ stop-is s at {t} {v} {next} g h =
     go (a .value) (a .place) (type-is s at (a .gave)) (isStop (a .value)) refl (a .on)
   where
     go : (u : TType) (q : ℕ) → TypeIs s at u q → (b : Bool) → isStop u ≡ b
-        → gives (field t v) next ≡ stopOr b (gives (field u (pos 0)) q) (andThen (i16At s q) λ id end. gives (field u id) end)
+        → gives (field t v) next ≡ cond b (gives (field u (pos 0)) q) (andThen (i16At s q) λ id end. gives (field u id) end)
         → Part s at next (typeByte T.Stop ∷ [])
     go u q x true f e =
         let place : q ≡ next = cc in

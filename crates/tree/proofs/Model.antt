@@ -2,12 +2,12 @@
 -- Assumes nothing: these are definitions.
 use Prim.Native.Nat.{ℕ, zero, suc, _+_, _-_, _<_}
 use mathlib.Core.Path.{_≡_, ap}
-use mathlib.Core.Bool.{Bool, true, false}
+use mathlib.Core.Bool.{cond}
 use mathlib.Core.List.{List}
 use lib.IntN.{natAbs}
 use lib.ListN.{length}
 use native.Mathlib.Omega.{arith}
-use Rattle.wire.specs.Answer.{Answer, gives, refused, within}
+use Rattle.wire.specs.Answer.{Answer, gives, refused, judged, within}
 use Rattle.wire.specs.Codes.{isStop}
 use Rattle.wire.specs.Shapes.{shapeOf}
 use Rattle.wire.specs.declared.codes.TType.{TType}
@@ -19,28 +19,20 @@ use Rattle.read.specs.Headers.{fieldAt, listAt, mapAt, structBeginAt}
 use Rattle.read.specs.declared.field.TFieldIdentifier.{TFieldIdentifier}
 use Rattle.read.specs.declared.container.TListIdentifier.{TListIdentifier}
 use Rattle.read.specs.declared.container.TMapIdentifier.{TMapIdentifier}
-use Rattle.tree.specs.Answers.{Outcome, ended, cut-off, judged}
+use Rattle.tree.specs.Answers.{Outcome, ended, cut-off, leafOutcome}
 
 -- after a value: cut off with what was counted, or on
 abbrev pub after : Outcome → ℕ → (ℕ → ℕ → Outcome) → Outcome
 after (cut-off n p c) k on = cut-off n p (k + c)
 after (ended e c) k on = on e (k + c)
 
-abbrev pub leaf : Answer Unit → Outcome
-leaf (gives u e) = ended e 1
-leaf (refused n p) = cut-off n p 1
-
 unfoldable pub elements : (ℕ → Outcome) → ℕ → ℕ → ℕ → Outcome
 elements child zero at n = ended at n
 elements child (suc k) at n = after (child at) n (elements child k)
 
-abbrev pub stopStep : Bool → Outcome → Outcome → Outcome
-stopStep true stop more = stop
-stopStep false stop more = more
-
 abbrev pub fieldStep : (TType → ℕ → Outcome) → Answer TFieldIdentifier → ℕ → (ℕ → ℕ → Outcome) → Outcome
 fieldStep child (refused n p) k on = cut-off n p k
-fieldStep child (gives f q) k on = stopStep (isStop (f .«field_type»)) (ended q k) (after (child (f .«field_type») q) k on)
+fieldStep child (gives f q) k on = cond (isStop (f .«field_type»)) (ended q k) (after (child (f .«field_type») q) k on)
 
 unfoldable pub fields : (TType → ℕ → Outcome) → List ℕ → ℕ → ℕ → ℕ → Outcome
 fields child s zero at n = ended at n
@@ -63,8 +55,8 @@ structStep inside (refused n p) = cut-off n p 1
 structStep inside (gives inner q) = inside
 
 abbrev pub byShape : TConfiguration → List ℕ → ℕ → ℕ → (ℕ → TType → ℕ → Outcome) → Shape → Outcome
-byShape c s at sd child (Sh.Fixed w) = leaf (within s at w)
-byShape c s at sd child Sh.Text = leaf (judged (bytesAt (c .«max_string_size») s at))
+byShape c s at sd child (Sh.Fixed w) = leafOutcome (within s at w)
+byShape c s at sd child Sh.Text = leafOutcome (judged (bytesAt (c .«max_string_size») s at))
 byShape c s at sd child Sh.Fields = structStep (fields (child (sd + 1)) s (length s + 1) at 1) (structBeginAt (c .«max_recursion_depth») sd s at)
 byShape c s at sd child Sh.Items = listStep (child sd) (listAt c s at)
 byShape c s at sd child Sh.Pairs = mapStep (child sd) (mapAt c s at)

@@ -7,7 +7,7 @@ use lib.IntN.{ℤ, pos, natAbs}
 use lib.ListN.{length, length-append}
 use native.Mathlib.Omega.{arith}
 use borrow.Author.Tests.{ne-eqb}
-use Rattle.wire.specs.Answer.{Answer, gives, refused, refuseIf, within}
+use Rattle.wire.specs.Answer.{Answer, gives, refused, refuseIf, judged, within}
 use Rattle.wire.specs.Codes.{typeByte, isStop}
 use Rattle.wire.specs.Shapes.{shapeOf}
 use Rattle.wire.specs.declared.codes.TType.{TType}
@@ -19,11 +19,11 @@ use Rattle.number.specs.BigEndian.{bytesOf}
 use Rattle.read.specs.Headers.{field, fieldAt, list, listAt, map, mapAt, structBeginAt}
 use Rattle.tree.specs.Part.{Part}
 use Rattle.tree.specs.Tree.{Tree, Fields, Trees, Pairs, scalar, text, struct, list as list-of, map as map-of, nil, snoc, none, then, empty, with, layout, fieldsLayout, treesLayout, pairsLayout, valuesOf, fieldsValues, treesValues, pairsValues, countOf, pairsOf, Fits, FieldsFit, TreesFit, PairsFit}
-use Rattle.tree.specs.Answers.{Outcome, ended, cut-off, judged, shapeOwn, ownAt, Cut, here, head, field-value, element, key, value, begunOf, Faults, Answers, skipEntry, AfterEntry, SkipAnswers}
+use Rattle.tree.specs.Answers.{Outcome, ended, cut-off, leafOutcome, shapeOwn, ownAt, Cut, here, head, field-value, element, key, value, begunOf, Faults, Answers, skipEntry, AfterEntry, SkipAnswers}
 use Rattle.tree.proofs.Parts.{part-split, part-length}
 use Rattle.tree.proofs.Heads.{clash}
 use Rattle.tree.proofs.Reading.{part-within, text-reads, list-reads, map-reads, field-reads, stop-reads, struct-reads}
-use Rattle.tree.proofs.Model.{leaf, elements, fields, pairs, listStep, mapStep, structStep, byShape, skipAs, childOf, skip-deep}
+use Rattle.tree.proofs.Model.{elements, fields, pairs, listStep, mapStep, structStep, byShape, skipAs, childOf, skip-deep}
 
 -- ---- one step of each loop of the model
 
@@ -88,7 +88,7 @@ num-le (snoc fs t id v) = simp length-append (omega (arith, num-le fs))
 
 -- ---- a value by its own header
 
-leaf-refused : {m : Answer Unit} {n p : ℕ} → refused n p ≡ m → leaf m ≡ cut-off n p 1
+leaf-refused : {m : Answer Unit} {n p : ℕ} → refused n p ≡ m → leafOutcome m ≡ cut-off n p 1
 leaf-refused h = rw (← h)
 
 by-refused : {A : Type 0} (step : Answer A → Outcome) → ((n p : ℕ) → step (refused n p) ≡ cut-off n p 1) → (m : Answer A) (n p : ℕ)
@@ -144,11 +144,11 @@ module _ (c : TConfiguration) (s : List ℕ) where
     tree-model (scalar b) at e d sd sh p f =
         skip-deep c s d sd sh at (f .deep)
         ∙ ap (byShape c s at sd (childOf c s (d - 1))) (f .shape)
-        ∙ ap leaf (sym (part-within b (length b) refl p))
+        ∙ ap leafOutcome (sym (part-within b (length b) refl p))
     tree-model (text b) at e d sd sh p f =
         skip-deep c s d sd sh at (f .deep)
         ∙ ap (byShape c s at sd (childOf c s (d - 1))) (f .shape)
-        ∙ ap leaf (ap judged (sym (text-reads c b (f .size) p)))
+        ∙ ap leafOutcome (ap judged (sym (text-reads c b (f .size) p)))
     tree-model (struct fs) at e d sd sh p f =
         let sp = part-split (fieldsLayout fs) (typeByte T.Stop ∷ []) p in
         opened fs at (sp .mid) d sd sh (f .shape) (f .deep) (struct-reads c sd s at (omega (arith, p .from, p .within)) (f .limit) (f .cap)) (sp .left)

@@ -1,7 +1,7 @@
 -- A header's refusal never lies before the header. Assumes nothing.
 use Prim.Native.Nat.{ℕ, _+_, _≤_}
 use mathlib.Core.Path.{_≡_, refl}
-use mathlib.Core.Bool.{Bool, true, false}
+use mathlib.Core.Bool.{Bool, true, false, cond}
 use mathlib.Core.List.{List}
 use lib.IntN.{ℤ, pos, natAbs}
 use lib.Signed.{ltZ}
@@ -9,7 +9,7 @@ use mir.Syntax.{w16, w32}
 use mir.Val.{toZ}
 use native.Mathlib.Nat.{le-trans}
 use native.Mathlib.Omega.{arith}
-use Rattle.wire.specs.Answer.{Answer, gives, refused, refuseIf, andThen, within, itemAt}
+use Rattle.wire.specs.Answer.{Answer, gives, refused, refuseIf, andThen, judged, within, itemAt}
 use Rattle.wire.specs.Codes.{typeOf, isStop, leastSize}
 use Rattle.wire.specs.declared.codes.TType.{TType}
 use Rattle.wire.specs.declared.codes.Typed.{Typed}
@@ -22,8 +22,8 @@ use Rattle.config.specs.declared.limit.Limit.{Limit}
 use Rattle.config.specs.declared.configuration.TConfiguration.{TConfiguration}
 use Rattle.text.specs.Texts.{sizeAt, sizedAt, limitedAt}
 use Rattle.text.proofs.Texts.{limited-is}
-use Rattle.read.specs.Headers.{known, typeAt, field, stopOr, fieldAt, countAt, listAt, mapAt, structBeginAt}
-use Rattle.tree.specs.Answers.{judged, shapeOwn, ownAt}
+use Rattle.read.specs.Headers.{known, typeAt, field, fieldAt, countAt, listAt, mapAt, structBeginAt}
+use Rattle.tree.specs.Answers.{shapeOwn, ownAt}
 use Rattle.tree.proofs.Heads.{clash, number-is, type-is}
 
 -- an answer whose refusals lie at a place or behind it
@@ -78,7 +78,7 @@ module _ (s : List ℕ) where
       then-later at (typeAt s at) _ (type-later at) (λ t q e. by-stop t q (type-is s at e .part .from) (isStop t))
     where
       by-stop : (t : TType) (q : ℕ) → at ≤ q → (b : Bool)
-          → Later at (stopOr b (gives (field t (pos 0)) q) (andThen (i16At s q) λ id end. gives (field t id) end))
+          → Later at (cond b (gives (field t (pos 0)) q) (andThen (i16At s q) λ id end. gives (field t id) end))
       by-stop t q h true = gives-later _ q at
       by-stop t q h false = behind h (then-later q (i16At s q) _ (number-later 2 (toZ w16) q) (λ id r e. gives-later _ r q))
 

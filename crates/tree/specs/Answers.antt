@@ -6,7 +6,7 @@ use mathlib.Core.List.{List}
 use lib.ListN.{length}
 use lib.Dec.{eqb, ltb}
 use lib.IntN.{ℤ, natAbs}
-use Rattle.wire.specs.Answer.{Answer, gives, refused, refuseIf, entry, within}
+use Rattle.wire.specs.Answer.{Answer, gives, refused, refuseIf, judged, entry, within}
 use Rattle.wire.specs.Codes.{isStop}
 use Rattle.wire.specs.Shapes.{shapeOf}
 use Rattle.wire.specs.declared.codes.TType.{TType}
@@ -17,11 +17,6 @@ use Rattle.text.specs.Texts.{bytesAt}
 use Rattle.read.specs.Headers.{field, fieldAt, list, listAt, map, mapAt, structBeginAt}
 use Rattle.tree.specs.Part.{Part}
 use Rattle.tree.specs.Tree.{Tree, Fields, Trees, Pairs, layout, fieldsLayout, treesLayout, pairsLayout, valuesOf, fieldsValues, treesValues, pairsValues, countOf, pairsOf, Fits, FieldsFit, TreesFit, PairsFit}
-
--- only whether it is refused, and where it ends
-abbrev pub judged : {A : Type 0} → Answer A → Answer Unit
-judged (gives v p) = gives tt p
-judged (refused n p) = refused n p
 
 -- What a value is refused by itself, before a value in it begins: "depth 0 is 10; Stop, Void and Utf7 are 12; a scalar or a UUID passes its
 -- bytes; a string its length and body, no UTF-8 check; a struct does the struct begin …; a container reads its header …"
@@ -143,6 +138,11 @@ pub record IsCut (c : TConfiguration) (s : List ℕ) (at d sd : ℕ) (sh : Shape
 pub data Outcome : Type 0 where
   ended : ℕ → ℕ → Outcome
   cut-off : ℕ → ℕ → ℕ → Outcome
+
+-- of a value with no value in it, which counts as one
+abbrev pub leafOutcome : Answer Unit → Outcome
+leafOutcome (gives u e) = ended e 1
+leafOutcome (refused n p) = cut-off n p 1
 
 -- the one relation, by cases on what is told
 abbrev pub Answers : TConfiguration → List ℕ → ℕ → ℕ → ℕ → Shape → Outcome → Type 0

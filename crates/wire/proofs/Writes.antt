@@ -12,7 +12,7 @@ use lib.ListN.{length, take, drop, length-append, length-take, length-drop, drop
 use lib.Seq.{take-all, take-at, drop-drop, drop-append-add}
 use Rattle.wire.specs.Answer.{Answer, gives, refused, refuseIf, andThen}
 use Rattle.wire.specs.Refusals.{toldMoved, toldRefusal}
-use Rattle.wire.specs.Writes.{roomFor, laid, writeAt, answered, left, Wrote, inFront}
+use Rattle.wire.specs.Writes.{roomFor, laid, writeAt, left, Wrote, inFront}
 use Rattle.wire.specs.declared.cursor.Cursor.{Cursor}
 use Rattle.wire.specs.declared.cursor.Moved.{Moved}
 use Rattle.wire.specs.declared.cursor.Moved.the-variants as M
@@ -51,11 +51,11 @@ room-fits n at w f = let i = has-room n at w f in omega (arith, ltb-false n at (
 
 -- a write that refuses, for whatever reason, leaves the buffer as it was
 pub refuses-write : {old : List ℕ} {x : Refusal} {write : Answer (List ℕ)} → toldRefusal x ≡ write → Wrote (M.Refused x) old old write
-unfolding answered left
+unfolding left
 refuses-write e = record { answer = rw (← e); buffer = rw (← e) }
 
 pub wrote : {new old : List ℕ} {c : Cursor} {write : Answer (List ℕ)} → gives new (c .at) ≡ write → Wrote (M.To c) new old write
-unfolding answered left
+unfolding left
 wrote e = record { answer = rw (← e); buffer = rw (← e) }
 
 -- a refusal of two tests is theirs, whatever would follow them

@@ -20,6 +20,15 @@ unfoldable pub andThen : {A B : Type 0} → Answer A → (A → ℕ → Answer B
 andThen (gives v p) rest = rest v p
 andThen (refused n p) rest = refused n p
 
+-- the same answer, its value seen as f says
+abbrev pub mapped : {A B : Type 0} → (A → B) → Answer A → Answer B
+mapped f (gives v p) = gives (f v) p
+mapped f (refused n p) = refused n p
+
+-- only whether it is refused, and where it ends
+abbrev pub judged : {A : Type 0} → Answer A → Answer Unit
+judged m = mapped (λ _. tt) m
+
 -- every entry: 2 where the place is beyond the length, then the rest
 abbrev pub entry : {A : Type 0} → List ℕ → ℕ → Answer A → Answer A
 entry s at rest = refuseIf (ltb (length s) at) 2 at rest

@@ -5,7 +5,7 @@ use mathlib.Core.Bool.{cond}
 use mathlib.Core.List.{List, _++_}
 use lib.ListN.{length, take, drop}
 use lib.Dec.{ltb}
-use Rattle.wire.specs.Answer.{Answer, gives, refused, refuseIf, andThen, entry}
+use Rattle.wire.specs.Answer.{Answer, gives, refused, refuseIf, andThen, judged, entry}
 use Rattle.wire.specs.Refusals.{toldMoved}
 use Rattle.wire.specs.declared.cursor.Moved.{Moved}
 
@@ -29,19 +29,14 @@ writeAt output out at =
 abbrev pub putAt : List ℕ → List ℕ → ℕ → Answer (List ℕ)
 putAt bs out at = writeAt (gives bs at) out at
 
--- the answer without the buffer
-unfoldable pub answered : Answer (List ℕ) → Answer Unit
-answered (gives new next) = gives tt next
-answered (refused n p) = refused n p
-
 -- the buffer after a write: a refusal "changes no lent byte"
 unfoldable pub left : Answer (List ℕ) → List ℕ → List ℕ
 left (gives new next) old = new
 left (refused n p) old = old
 
--- what a writer promises: its answer, and every byte of the buffer
+-- what a writer promises: its answer, without the buffer, and every byte of the buffer
 pub record Wrote (r : Moved) (new old : List ℕ) (write : Answer (List ℕ)) : Type 0 where
-  pub answer : toldMoved r ≡ answered write
+  pub answer : toldMoved r ≡ judged write
   pub buffer : new ≡ left write old
 
 -- a leaf writer's part: bs in front of what it was lent, which stays as it was where there is no room for all of them

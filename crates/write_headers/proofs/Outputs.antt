@@ -12,7 +12,7 @@ use mir.Val.{ofZ}
 use Rattle.wire.specs.Answer.{Answer, gives, refused, refuseIf, andThen}
 use Rattle.wire.specs.Codes.{typeByte, isStop}
 use Rattle.wire.specs.Refusals.{toldMoved}
-use Rattle.wire.specs.Writes.{writeAt, answered, left, Wrote}
+use Rattle.wire.specs.Writes.{writeAt, left, Wrote}
 use Rattle.wire.specs.declared.codes.TType.{TType}
 use Rattle.wire.specs.declared.cursor.Moved.{Moved}
 use Rattle.number.specs.BigEndian.{bytesOf}
@@ -62,7 +62,7 @@ missing-there n at h = rw (le-ltb _ _ h)
 -- and is the write's fault
 pub missing-write : (output : Answer (List ℕ)) (out : List ℕ) (at : ℕ) {r : Moved} → refused 17 at ≡ output
     → toldMoved r ≡ refuseIf (ltb (length out) at) 2 at (refused 17 at) → Wrote r out out (writeAt output out at)
-unfolding writeAt andThen refuseIf answered left
+unfolding writeAt andThen refuseIf left
 missing-write output out at {r} e t = rw (← e) (go (ltb (length out) at) t)
   where
     go : (b : Bool) → toldMoved r ≡ refuseIf b 2 at (refused 17 at) → Wrote r out out (refuseIf b 2 at (refused 17 at))

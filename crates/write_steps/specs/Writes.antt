@@ -9,9 +9,9 @@ use lib.IntN.{ℤ}
 use lib.Ieee.{binary64, ofBits, toBits}
 use mir.Syntax.{w8, w16, w32, w64}
 use mir.Val.{toZ, ofZ}
-use Rattle.wire.specs.Answer.{Answer, stayAt}
+use Rattle.wire.specs.Answer.{Answer, judged, stayAt}
 use Rattle.wire.specs.Codes.{typeByte, messageOf}
-use Rattle.wire.specs.Writes.{putAt, writeAt, answered, left}
+use Rattle.wire.specs.Writes.{putAt, writeAt, left}
 use Rattle.wire.specs.declared.codes.TType.{TType}
 use Rattle.wire.specs.declared.codes.TType.the-variants as T
 use Rattle.wire.specs.declared.codes.Typed.{Typed}
@@ -105,7 +105,7 @@ pub data Does : Type 0 where
   nothing : Does
 
 abbrev pub comesTo : Does → Stepped
-comesTo (puts w) = To.Set (rowBy noneRow (answered w))
+comesTo (puts w) = To.Set (rowBy noneRow (judged w))
 comesTo (stays w) = To.Set w
 comesTo nothing = To.Unknown
 

@@ -16,7 +16,7 @@ use Rattle.tree.proofs.Bounds.{stands-count, cut-small}
 use Rattle.skip.proofs.Runs.{after-run, run-upto}
 use Rattle.skip.proofs.Sizes.{list-bits, map-bits}
 use Rattle.wire.specs.Shapes.{shapeOf}
-use Rattle.tree.specs.Answers.{judged}
+use Rattle.wire.specs.Answer.{judged}
 use Rattle.tree.proofs.Parts.{part-length}
 use Rattle.tree.proofs.Heads.{field-is, struct-is}
 use Rattle.wire.specs.declared.shape.Shape.the-variants as Sh

@@ -3,7 +3,7 @@ use borrow.Author.Needs.{needs}
 use mathlib.Core.Path.{ap}
 use Rattle.wire.proofs.Answers.{told-as}
 use Rattle.wire.specs.Refusals.{toldMoved}
-use Rattle.skip.specs.Told.{leafOutcome}
+use Rattle.tree.specs.Answers.{leafOutcome}
 use Rattle.skip.proofs.value.skip_fixed.Statement.{statement}
 use Rattle.skip.proofs.value.skip_fixed.Tie as tie
 

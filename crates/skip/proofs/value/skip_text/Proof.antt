@@ -5,11 +5,11 @@ use lib.IntN.{natAbs}
 use mir.Syntax.{w32}
 use mir.Val.{toZ, ofZ}
 use Rattle.number.specs.Told.{toldI32}
+use Rattle.wire.specs.Answer.{judged}
 use Rattle.wire.proofs.Answers.{told-as}
 use Rattle.text.proofs.Texts.{size-bits, limited-is, unsized}
-use Rattle.tree.specs.Answers.{judged}
+use Rattle.tree.specs.Answers.{leafOutcome}
 use Rattle.skip.proofs.Leaves.{text-onward}
-use Rattle.skip.specs.Told.{leafOutcome}
 use Rattle.skip.proofs.value.skip_text.Statement.{statement}
 use Rattle.skip.proofs.value.skip_text.Tie as tie
 
