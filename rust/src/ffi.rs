@@ -82,6 +82,17 @@ pub fn skip(bytes: &[u8], place: usize, depth: usize, type_byte: u8) -> [u64; 3]
     numbers(&record)
 }
 
+/// The record's numbers where it was set; none where the port returned 255, for a step or an argument that there is not.
+#[cfg(feature = "steps")]
+fn set(returned: u32, record: &[[u8; 8]; 6]) -> Option<[u64; 6]> {
+    match returned {
+        0 => Some(numbers(record)),
+        255 => None,
+        // 15 would be for a record under 48 bytes
+        other => panic!("returned {other} for a record of 48 bytes"),
+    }
+}
+
 /// What `thrift_read` sets its record to, or none where it knows no such step.
 #[cfg(feature = "steps")]
 pub fn read(call: &ReadCall<'_>) -> Option<[u64; 6]> {
@@ -107,7 +118,7 @@ pub fn read(call: &ReadCall<'_>) -> Option<[u64; 6]> {
             record.as_flattened().len(),
         )
     };
-    (returned == 0).then(|| numbers(&record))
+    set(returned, &record)
 }
 
 /// What `thrift_write` sets its record to, or none where it knows no such step or the argument does not fit it.
@@ -135,7 +146,7 @@ pub fn write(call: &WriteCall<'_>, out: &mut [u8]) -> Option<[u64; 6]> {
             record.as_flattened().len(),
         )
     };
-    (returned == 0).then(|| numbers(&record))
+    set(returned, &record)
 }
 
 #[cfg(test)]

@@ -26,7 +26,7 @@ fn print_refusal(refusal: Refusal) {
 }
 
 fn print_i32(v: i32) {
-    let bits = number::sign::bits32(v);
+    let bits = sign::bits32(v);
     if bits < 0x8000_0000 {
         io::print_decimal(1, bits as u64);
     } else {

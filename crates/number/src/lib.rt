@@ -1,7 +1,6 @@
 // Numbers read at a cursor of a lent slice: the value with the moved cursor, or the refusal.
 mod big;
 pub mod put;
-pub mod sign;
 
 use wire::cursor::Cursor;
 use wire::cursor::Moved;

@@ -15,7 +15,7 @@ six w = ((((bytesOf 8 (w .number) ++ bytesOf 8 (w .place)) ++ bytesOf 8 (w .a)) 
 abbrev pub filled : Row → List ℕ → List ℕ
 filled w old = six w ++ drop 48 old
 
--- 0 and the record set, or 1 and nothing touched
+-- 0 and the record set, or 255, which is no refusal of 01's, and nothing touched
 abbrev pub Left : Stepped → List ℕ → ℕ → List ℕ → Type 0
 Left (To.Set w) old r new = (r ≡ 0) × (new ≡ filled w old)
-Left To.Unknown old r new = (r ≡ 1) × (new ≡ old)
+Left To.Unknown old r new = (r ≡ 255) × (new ≡ old)

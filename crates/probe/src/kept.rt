@@ -27,6 +27,6 @@ pub(crate) fn keep(kept: &mut [u8], stepped: Stepped) -> u32
             fill(kept, row);
             0
         }
-        Stepped::Unknown => 1,
+        Stepped::Unknown => 255,
     }
 }

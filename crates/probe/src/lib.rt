@@ -7,7 +7,7 @@ ghost use Rattle.write_steps.specs.Writes.{writingOf, doesOf};
 ghost use Rattle.probe.specs.Reads.{Read};
 ghost use Rattle.probe.specs.Writes.{Written};
 
-// Returns 15 where the record has fewer than 48 bytes, 1 for a step or type that there is not, and else 0 with the
+// Returns 15 where the record has fewer than 48 bytes, 255 for a step or type that there is not, and else 0 with the
 // record's first 48 bytes set.
 #[no_mangle]
 pub extern "C" fn thrift_read(
@@ -45,7 +45,7 @@ pub extern "C" fn thrift_read(
     kept::keep(kept, read_steps::by_number(bytes, step, call))
 }
 
-// The same of a write, which also returns 1 for a message type that there is not and a UUID that has not 16 bytes.
+// The same of a write, which also returns 255 for a message type that there is not and a UUID that has not 16 bytes.
 #[no_mangle]
 pub extern "C" fn thrift_write(
     out: &mut [u8],

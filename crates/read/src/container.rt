@@ -61,7 +61,7 @@ pub(crate) fn read_count(
         I32Read::Value(size, next) => {
             let container = config.max_container_size;
             let message = config.max_message_size;
-            let len = number::sign::bits32(size) as usize;
+            let len = sign::bits32(size) as usize;
             if container.exceeded_by(len) {
                 return I32Read::Refused(Refusal {
                     kind: Kind::ContainerLimit,

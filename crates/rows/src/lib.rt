@@ -114,7 +114,7 @@ pub fn of_i8(read: I8Read) -> Row
     ensures { λ r. ⌜ r ≡ rowBy (bitsRow w8) (toldI8 read) ⌝ }
 {
     match read {
-        I8Read::Value(v, next) => given(next, number::sign::bits8(v) as u64),
+        I8Read::Value(v, next) => given(next, sign::bits8(v) as u64),
         I8Read::Refused(refusal) => refused(refusal),
     }
 }
@@ -123,7 +123,7 @@ pub fn of_i16(read: I16Read) -> Row
     ensures { λ r. ⌜ r ≡ rowBy (bitsRow w16) (toldI16 read) ⌝ }
 {
     match read {
-        I16Read::Value(v, next) => given(next, number::sign::bits16(v) as u64),
+        I16Read::Value(v, next) => given(next, sign::bits16(v) as u64),
         I16Read::Refused(refusal) => refused(refusal),
     }
 }
@@ -132,7 +132,7 @@ pub fn of_i32(read: I32Read) -> Row
     ensures { λ r. ⌜ r ≡ rowBy (bitsRow w32) (toldI32 read) ⌝ }
 {
     match read {
-        I32Read::Value(v, next) => given(next, number::sign::bits32(v) as u64),
+        I32Read::Value(v, next) => given(next, sign::bits32(v) as u64),
         I32Read::Refused(refusal) => refused(refusal),
     }
 }
@@ -141,7 +141,7 @@ pub fn of_i64(read: I64Read) -> Row
     ensures { λ r. ⌜ r ≡ rowBy (bitsRow w64) (toldI64 read) ⌝ }
 {
     match read {
-        I64Read::Value(v, next) => given(next, number::sign::bits64(v)),
+        I64Read::Value(v, next) => given(next, sign::bits64(v)),
         I64Read::Refused(refusal) => refused(refusal),
     }
 }
@@ -150,7 +150,7 @@ pub fn of_double(read: DoubleRead) -> Row
     ensures { λ r. ⌜ r ≡ rowBy doubleRow (toldDouble read) ⌝ }
 {
     match read {
-        DoubleRead::Value(v, next) => given(next, number::sign::pattern(v)),
+        DoubleRead::Value(v, next) => given(next, sign::pattern(v)),
         DoubleRead::Refused(refusal) => refused(refusal),
     }
 }
@@ -183,7 +183,7 @@ pub fn of_field(read: FieldRead) -> Row
             pair(
                 next,
                 wire::codes::field_type_to_u8(t) as u64,
-                number::sign::bits16(id) as u64,
+                sign::bits16(id) as u64,
             )
         }
         FieldRead::Refused(refusal) => refused(refusal),
@@ -200,7 +200,7 @@ pub fn of_list(read: ListRead) -> Row
             pair(
                 next,
                 wire::codes::field_type_to_u8(t) as u64,
-                number::sign::bits32(size) as u64,
+                sign::bits32(size) as u64,
             )
         }
         ListRead::Refused(refusal) => refused(refusal),
@@ -217,7 +217,7 @@ pub fn of_set(read: SetRead) -> Row
             pair(
                 next,
                 wire::codes::field_type_to_u8(t) as u64,
-                number::sign::bits32(size) as u64,
+                sign::bits32(size) as u64,
             )
         }
         SetRead::Refused(refusal) => refused(refusal),
@@ -237,7 +237,7 @@ pub fn of_map(read: MapRead) -> Row
                 place: next.at as u64,
                 a: wire::codes::field_type_to_u8(key) as u64,
                 b: wire::codes::field_type_to_u8(value) as u64,
-                c: number::sign::bits32(size) as u64,
+                c: sign::bits32(size) as u64,
                 d: 0,
             }
         }
@@ -279,7 +279,7 @@ pub fn of_message(read: MessageRead) -> Row
                 a: name.start as u64,
                 b: name.end as u64,
                 c: wire::codes::message_type_to_u8(t) as u64,
-                d: number::sign::bits32(sequence) as u64,
+                d: sign::bits32(sequence) as u64,
             }
         }
         MessageRead::Refused(refusal) => refused(refusal),
@@ -326,11 +326,11 @@ fn scalar_bits(v: Scalar) -> u64
 {
     match v {
         Scalar::Bool(b) => bool_number(b),
-        Scalar::I08(i) => number::sign::bits8(i) as u64,
-        Scalar::I16(i) => number::sign::bits16(i) as u64,
-        Scalar::I32(i) => number::sign::bits32(i) as u64,
-        Scalar::I64(i) => number::sign::bits64(i),
-        Scalar::Double(d) => number::sign::pattern(d),
+        Scalar::I08(i) => sign::bits8(i) as u64,
+        Scalar::I16(i) => sign::bits16(i) as u64,
+        Scalar::I32(i) => sign::bits32(i) as u64,
+        Scalar::I64(i) => sign::bits64(i),
+        Scalar::Double(d) => sign::pattern(d),
     }
 }
 

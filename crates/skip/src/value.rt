@@ -51,7 +51,7 @@ fn skip_text(bytes: &[u8], cursor: Cursor, config: TConfiguration) -> Walked
     let limit = config.max_string_size;
     match text::read_limited(bytes, cursor, limit, Body::Text) {
         I32Read::Value(size, body) => {
-            skip_fixed(bytes, body, number::sign::bits32(size) as usize)
+            skip_fixed(bytes, body, sign::bits32(size) as usize)
         }
         I32Read::Refused(refusal) => Walked::Refused(refusal, 1),
     }
@@ -170,7 +170,7 @@ fn skip_list(
         ListRead::Value(list, first) => {
             let element_type = list.element_type;
             let size = list.size;
-            let bits = number::sign::bits32(size);
+            let bits = sign::bits32(size);
             let len = bits as usize;
             let begin = first.at;
             let run = skip_run(bytes, begin, element_type, bits, depth - 1);
@@ -217,7 +217,7 @@ fn skip_map(
             let key_type = map.key_type;
             let value_type = map.value_type;
             let size = map.size;
-            let len = number::sign::bits32(size) as usize;
+            let len = sign::bits32(size) as usize;
             let mut at = first.at;
             let mut count: usize = 1;
             let mut i: usize = 0;

@@ -66,7 +66,7 @@ pub fn read_limited(bytes: &[u8], cursor: Cursor, limit: Limit, body: Body) -> I
     let at = cursor.at;
     match read_size(bytes, cursor) {
         I32Read::Value(size, next) => {
-            if limit.exceeded_by(number::sign::bits32(size) as usize) {
+            if limit.exceeded_by(sign::bits32(size) as usize) {
                 return I32Read::Refused(Refusal {
                     kind: above_limit(body),
                     place: at,
@@ -85,7 +85,7 @@ pub fn read_sized(bytes: &[u8], cursor: Cursor, limit: Limit, body: Body) -> Tex
     match read_limited(bytes, cursor, limit, body) {
         I32Read::Value(size, first) => {
             let start = first.at;
-            match first.past(bytes, number::sign::bits32(size) as usize) {
+            match first.past(bytes, sign::bits32(size) as usize) {
                 Moved::To(next) => {
                     let end = next.at;
                     TextRead::Value(Span { start, end }, next)

@@ -23,7 +23,7 @@ pub fn write_bool(out: &mut [u8], cursor: Cursor, b: bool) -> Moved
 pub fn write_i8(out: &mut [u8], cursor: Cursor, i: i8) -> Moved
     ensures { λ r. ⌜ Wrote r (now (out .exit)) (now (out .entry)) (putAt (bytesOf 1 (ofZ w8 i)) (now (out .entry)) (cursor .at)) ⌝ }
 {
-    write_byte(out, cursor, number::sign::bits8(i))
+    write_byte(out, cursor, sign::bits8(i))
 }
 
 pub fn write_i16(out: &mut [u8], cursor: Cursor, i: i16) -> Moved
@@ -32,7 +32,7 @@ pub fn write_i16(out: &mut [u8], cursor: Cursor, i: i16) -> Moved
     let at = cursor.at;
     match cursor.room(out.len(), 2) {
         Moved::To(next) => {
-            number::put::put16(&mut out[at..], number::sign::bits16(i));
+            number::put::put16(&mut out[at..], sign::bits16(i));
             Moved::To(next)
         }
         Moved::Refused(refusal) => Moved::Refused(refusal),
@@ -45,7 +45,7 @@ pub fn write_i32(out: &mut [u8], cursor: Cursor, i: i32) -> Moved
     let at = cursor.at;
     match cursor.room(out.len(), 4) {
         Moved::To(next) => {
-            number::put::put32(&mut out[at..], number::sign::bits32(i));
+            number::put::put32(&mut out[at..], sign::bits32(i));
             Moved::To(next)
         }
         Moved::Refused(refusal) => Moved::Refused(refusal),
@@ -69,14 +69,14 @@ fn write_u64(out: &mut [u8], cursor: Cursor, bits: u64) -> Moved
 pub fn write_i64(out: &mut [u8], cursor: Cursor, i: i64) -> Moved
     ensures { λ r. ⌜ Wrote r (now (out .exit)) (now (out .entry)) (putAt (bytesOf 8 (ofZ w64 i)) (now (out .entry)) (cursor .at)) ⌝ }
 {
-    write_u64(out, cursor, number::sign::bits64(i))
+    write_u64(out, cursor, sign::bits64(i))
 }
 
 // A NaN is written as 7ff8 0000 0000 0000; write_i64 is the call that keeps its payload.
 pub fn write_double(out: &mut [u8], cursor: Cursor, d: f64) -> Moved
     ensures { λ r. ⌜ Wrote r (now (out .exit)) (now (out .entry)) (putAt (bytesOf 8 (toBits binary64 d)) (now (out .entry)) (cursor .at)) ⌝ }
 {
-    write_u64(out, cursor, number::sign::pattern(d))
+    write_u64(out, cursor, sign::pattern(d))
 }
 
 pub fn write_byte(out: &mut [u8], cursor: Cursor, b: u8) -> Moved

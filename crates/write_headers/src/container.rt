@@ -48,7 +48,7 @@ pub fn write_list_begin(out: &mut [u8], cursor: Cursor, list: TListIdentifier) -
 {
     let element_type = list.element_type;
     let size = list.size;
-    write_elements(out, cursor, element_type, number::sign::bits32(size))
+    write_elements(out, cursor, element_type, sign::bits32(size))
 }
 
 pub fn write_list_end(out: &[u8], cursor: Cursor) -> Moved
@@ -62,7 +62,7 @@ pub fn write_set_begin(out: &mut [u8], cursor: Cursor, set: TSetIdentifier) -> M
 {
     let element_type = set.element_type;
     let size = set.size;
-    write_elements(out, cursor, element_type, number::sign::bits32(size))
+    write_elements(out, cursor, element_type, sign::bits32(size))
 }
 
 pub fn write_set_end(out: &[u8], cursor: Cursor) -> Moved
@@ -113,7 +113,7 @@ pub fn write_map_begin(
         MapType::Of(key) => match value_type {
             MapType::Absent => crate::field::missing(out.len(), cursor),
             MapType::Of(value) => {
-                write_pairs(out, cursor, key, value, number::sign::bits32(size))
+                write_pairs(out, cursor, key, value, sign::bits32(size))
             }
         },
     }

@@ -65,7 +65,7 @@ pub fn write_field_begin(out: &mut [u8], cursor: Cursor, field_type: TType, id: 
     ensures { λ r. ⌜ Wrote r (now (out .exit)) (now (out .entry)) (writeAt (fieldOutput «field_type» id (cursor .at)) (now (out .entry)) (cursor .at)) ⌝ }
 {
     match id {
-        FieldId::Of(id) => { write_with_id(out, cursor, field_type, number::sign::bits16(id)) }
+        FieldId::Of(id) => { write_with_id(out, cursor, field_type, sign::bits16(id)) }
         FieldId::Absent => {
             if field_type.is_stop() {
                 let stop = wire::codes::field_type_to_u8(field_type);

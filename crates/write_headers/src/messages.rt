@@ -88,7 +88,7 @@ pub fn write_message_begin(
 {
     match write::string::check_name(out.len(), cursor, name) {
         Moved::To(_) => {
-            let sequence = number::sign::bits32(sequence_number);
+            let sequence = sign::bits32(sequence_number);
             if strict {
                 return write_versioned(out, cursor, name, message_type, sequence);
             }

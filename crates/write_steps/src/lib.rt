@@ -61,19 +61,19 @@ pub fn asked_with(
 fn low_i8(number: u64) -> i8
     ensures { λ r. ⌜ r ≡ low8 number ⌝ }
 {
-    number::sign::signed8((number % 256) as u8)
+    sign::signed8((number % 256) as u8)
 }
 
 fn low_i16(number: u64) -> i16
     ensures { λ r. ⌜ r ≡ low16 number ⌝ }
 {
-    number::sign::signed16((number % 65_536) as u16)
+    sign::signed16((number % 65_536) as u16)
 }
 
 fn low_i32(number: u64) -> i32
     ensures { λ r. ⌜ r ≡ low32 number ⌝ }
 {
-    number::sign::signed32((number % 4_294_967_296) as u32)
+    sign::signed32((number % 4_294_967_296) as u32)
 }
 
 fn put(out: &mut [u8], at: Cursor, number: u64, text: &[u8], step: Put) -> Moved
@@ -86,8 +86,8 @@ fn put(out: &mut [u8], at: Cursor, number: u64, text: &[u8], step: Put) -> Moved
         Put::I8 => write::scalar::write_i8(out, at, low_i8(number)),
         Put::I16 => write::scalar::write_i16(out, at, low_i16(number)),
         Put::I32 => write::scalar::write_i32(out, at, low_i32(number)),
-        Put::I64 => write::scalar::write_i64(out, at, number::sign::signed64(number)),
-        Put::Double => write::scalar::write_double(out, at, number::sign::double(number)),
+        Put::I64 => write::scalar::write_i64(out, at, sign::signed64(number)),
+        Put::Double => write::scalar::write_double(out, at, sign::double(number)),
         Put::Bytes => write::string::write_bytes(out, at, text),
         Put::String => write::string::write_string(out, at, text),
         Put::Frame => framed::write_frame(out, at, text),

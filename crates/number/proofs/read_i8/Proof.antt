@@ -3,7 +3,7 @@ use borrow.Author.Needs.{needs}
 use native.Mathlib.Omega.{arith}
 use mir.Syntax.{w8}
 use mir.Val.{toZ}
-use Rattle.number.proofs.TwosComplement.{reread}
+use Rattle.sign.proofs.TwosComplement.{reread}
 use Rattle.number.proofs.Widths.{fits, read, refuses}
 use Rattle.number.proofs.read_i8.Statement.{statement}
 use Rattle.number.proofs.read_i8.Tie as tie

@@ -35,7 +35,7 @@ use Rattle.skip.proofs.value.+skip_list+skip_map+skip_struct+skip_value
 use Rattle.skip.proofs.value.skip_value.Reads as skip-value
 use Rattle.skip.proofs.value.skip_value.Kinds as skip-value-kinds
 use Rattle.skip.proofs.value.+skip_list+skip_map+skip_struct+skip_value.Lts-skip_value as skip-value-lts
-use Rattle.number.proofs.sign.bits32.Reads as bits32-reads
+use Rattle.sign.proofs.bits32.Reads as bits32-reads
 use Rattle.read.proofs.container.read_list_begin.Reads as read-list-begin-reads
 use Rattle.read.proofs.container.read_map_begin.Reads as read-map-begin-reads
 use Rattle.read.proofs.field.read_field_begin.Reads as read-field-begin-reads

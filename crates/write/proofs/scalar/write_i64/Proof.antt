@@ -2,7 +2,7 @@
 use borrow.Author.Needs.{needs}
 use mathlib.Core.Path.{_∙_}
 use mir.Syntax.{w64}
-use Rattle.number.proofs.TwosComplement.{sent}
+use Rattle.sign.proofs.TwosComplement.{sent}
 use Rattle.write.proofs.scalar.write_i64.Statement.{statement}
 use Rattle.write.proofs.scalar.write_i64.Tie as tie
 

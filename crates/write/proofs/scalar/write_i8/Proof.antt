@@ -2,7 +2,7 @@
 use borrow.Author.Needs.{needs}
 use mathlib.Core.Path.{_∙_}
 use mir.Syntax.{w8}
-use Rattle.number.proofs.TwosComplement.{sent}
+use Rattle.sign.proofs.TwosComplement.{sent}
 use mir.Val.{ofZ}
 use mir.ValLaws.{ofZ-fits}
 use Rattle.number.proofs.Widths.{one-byte}

@@ -2,7 +2,7 @@
 use borrow.Author.Needs.{needs}
 use mathlib.Core.Path.{_∙_}
 use mir.Syntax.{w32}
-use Rattle.number.proofs.TwosComplement.{sent}
+use Rattle.sign.proofs.TwosComplement.{sent}
 use Rattle.write_headers.proofs.Outputs.{no-key, no-value, both-types, missing-write}
 use Rattle.write.proofs.Whole.{for-output}
 use Rattle.write_headers.proofs.container.write_map_begin.Statement.{statement}

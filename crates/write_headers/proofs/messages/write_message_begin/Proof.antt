@@ -7,7 +7,7 @@ use mir.Val.{ofZ}
 use Rattle.wire.specs.Refusals.{toldMoved}
 use Rattle.wire.proofs.Answers.{told-as}
 use Rattle.wire.proofs.Writes.{refuses-write}
-use Rattle.number.proofs.TwosComplement.{sent}
+use Rattle.sign.proofs.TwosComplement.{sent}
 use Rattle.message.specs.Layouts.{messageLayout}
 use Rattle.write.proofs.Outputs.{a-name, with-name, misnamed}
 use Rattle.write.proofs.Whole.{for-output}

@@ -1,8 +1,8 @@
 -- Assumes nothing.
 use mir.Syntax.{w8}
-use Rattle.number.proofs.TwosComplement.{plain-cast, plain, flip-cast, flip}
-use Rattle.number.proofs.sign.bits8.Statement.{statement}
-use Rattle.number.proofs.sign.bits8.Tie as tie
+use Rattle.sign.proofs.TwosComplement.{plain-cast, plain, flip-cast, flip}
+use Rattle.sign.proofs.bits8.Statement.{statement}
+use Rattle.sign.proofs.bits8.Tie as tie
 
 pub bits8-spec : {M : Type 1} → statement M
 bits8-spec =

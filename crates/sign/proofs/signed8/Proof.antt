@@ -1,9 +1,9 @@
 -- Assumes nothing.
 use borrow.Author.Needs.{needs}
 use mir.Syntax.{w8}
-use Rattle.number.proofs.TwosComplement.{flipped}
-use Rattle.number.proofs.sign.signed8.Statement.{statement}
-use Rattle.number.proofs.sign.signed8.Tie as tie
+use Rattle.sign.proofs.TwosComplement.{flipped}
+use Rattle.sign.proofs.signed8.Statement.{statement}
+use Rattle.sign.proofs.signed8.Tie as tie
 
 pub signed8-spec : {M : Type 1} → statement M
 signed8-spec =

@@ -1,9 +1,9 @@
 -- Assumes nothing.
 use borrow.Author.Needs.{needs}
 use mir.Syntax.{w16}
-use Rattle.number.proofs.TwosComplement.{flipped}
-use Rattle.number.proofs.sign.signed16.Statement.{statement}
-use Rattle.number.proofs.sign.signed16.Tie as tie
+use Rattle.sign.proofs.TwosComplement.{flipped}
+use Rattle.sign.proofs.signed16.Statement.{statement}
+use Rattle.sign.proofs.signed16.Tie as tie
 
 pub signed16-spec : {M : Type 1} → statement M
 signed16-spec =

@@ -1,9 +1,9 @@
 -- Assumes nothing.
 use borrow.Author.Needs.{needs}
 use mir.Syntax.{w64}
-use Rattle.number.proofs.TwosComplement.{flipped}
-use Rattle.number.proofs.sign.signed64.Statement.{statement}
-use Rattle.number.proofs.sign.signed64.Tie as tie
+use Rattle.sign.proofs.TwosComplement.{flipped}
+use Rattle.sign.proofs.signed64.Statement.{statement}
+use Rattle.sign.proofs.signed64.Tie as tie
 
 pub signed64-spec : {M : Type 1} → statement M
 signed64-spec =

@@ -1,8 +1,8 @@
 -- Assumes nothing.
 use mir.Syntax.{w64}
-use Rattle.number.proofs.TwosComplement.{plain-cast, plain, flip-cast, flip}
-use Rattle.number.proofs.sign.bits64.Statement.{statement}
-use Rattle.number.proofs.sign.bits64.Tie as tie
+use Rattle.sign.proofs.TwosComplement.{plain-cast, plain, flip-cast, flip}
+use Rattle.sign.proofs.bits64.Statement.{statement}
+use Rattle.sign.proofs.bits64.Tie as tie
 
 pub bits64-spec : {M : Type 1} → statement M
 bits64-spec =

@@ -1,8 +1,8 @@
 -- Assumes nothing.
 use mir.Syntax.{w16}
-use Rattle.number.proofs.TwosComplement.{plain-cast, plain, flip-cast, flip}
-use Rattle.number.proofs.sign.bits16.Statement.{statement}
-use Rattle.number.proofs.sign.bits16.Tie as tie
+use Rattle.sign.proofs.TwosComplement.{plain-cast, plain, flip-cast, flip}
+use Rattle.sign.proofs.bits16.Statement.{statement}
+use Rattle.sign.proofs.bits16.Tie as tie
 
 pub bits16-spec : {M : Type 1} → statement M
 bits16-spec =

@@ -1,9 +1,9 @@
 -- Assumes nothing.
 use borrow.Author.Needs.{needs}
 use mir.Syntax.{w32}
-use Rattle.number.proofs.TwosComplement.{flipped}
-use Rattle.number.proofs.sign.signed32.Statement.{statement}
-use Rattle.number.proofs.sign.signed32.Tie as tie
+use Rattle.sign.proofs.TwosComplement.{flipped}
+use Rattle.sign.proofs.signed32.Statement.{statement}
+use Rattle.sign.proofs.signed32.Tie as tie
 
 pub signed32-spec : {M : Type 1} → statement M
 signed32-spec =

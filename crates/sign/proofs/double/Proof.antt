@@ -1,9 +1,9 @@
 -- Assumes nothing.
 use borrow.Author.Needs.{needs}
 use lib.Ieee.{binary64, div, ofBits}
-use Rattle.number.proofs.Floats.{pattern-plain, pattern-nan}
-use Rattle.number.proofs.sign.double.Statement.{statement}
-use Rattle.number.proofs.sign.double.Tie as tie
+use Rattle.sign.proofs.Floats.{pattern-plain, pattern-nan}
+use Rattle.sign.proofs.double.Statement.{statement}
+use Rattle.sign.proofs.double.Tie as tie
 
 returns-2 : tie.Need-returns-2
 unfolding div ofBits

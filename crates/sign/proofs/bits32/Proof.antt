@@ -1,8 +1,8 @@
 -- Assumes nothing.
 use mir.Syntax.{w32}
-use Rattle.number.proofs.TwosComplement.{plain-cast, plain, flip-cast, flip}
-use Rattle.number.proofs.sign.bits32.Statement.{statement}
-use Rattle.number.proofs.sign.bits32.Tie as tie
+use Rattle.sign.proofs.TwosComplement.{plain-cast, plain, flip-cast, flip}
+use Rattle.sign.proofs.bits32.Statement.{statement}
+use Rattle.sign.proofs.bits32.Tie as tie
 
 pub bits32-spec : {M : Type 1} → statement M
 bits32-spec =

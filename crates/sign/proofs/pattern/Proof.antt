@@ -1,8 +1,8 @@
 -- Assumes nothing.
 use borrow.Author.Needs.{needs}
-use Rattle.number.proofs.Floats.{same-plain, differs-nan}
-use Rattle.number.proofs.sign.pattern.Statement.{statement}
-use Rattle.number.proofs.sign.pattern.Tie as tie
+use Rattle.sign.proofs.Floats.{same-plain, differs-nan}
+use Rattle.sign.proofs.pattern.Statement.{statement}
+use Rattle.sign.proofs.pattern.Tie as tie
 
 pub pattern-spec : {M : Type 1} → statement M
 pattern-spec =
