@@ -59,10 +59,13 @@ pub fn show_all(visitor: &mut dyn Visitor, share: &Share) {
     show_strings(visitor, share, &others, &bytes, 2);
 }
 
-/// The others with every string of 0 to 3 bytes as well.
+/// The others with every string of 0 to 3 bytes as well, but for a step that the crate doesn't have: a scalar read of
+/// a type that is no scalar's.
 pub fn show_undecided(visitor: &mut dyn Visitor, share: &Share) {
     let bytes: Vec<u8> = (0..=255).collect();
-    show_strings(visitor, share, &reads::by_bytes().1, &bytes, 3);
+    let mut others = reads::by_bytes().1;
+    others.retain(|call| call.step != ReadStep::Scalar);
+    show_strings(visitor, share, &others, &bytes, 3);
 }
 
 /// Every string of 0 to 6 telling bytes.

@@ -31,7 +31,7 @@ use Rattle.tree.proofs.Steps as steps
 use Rattle.skip.specs.Skips.{toldSkipped}
 use Rattle.write_headers.specs.Outputs.{fieldOutput}
 use Rattle.framed.specs.Frames.{frameAt}
-use Rattle.cases.specs.Table.{table, Every, Settled, skipped, versioned, unversioned, two-bytes, voids, i32-field}
+use Rattle.table.specs.Table.{table, Every, Settled, skipped, versioned, unversioned, two-bytes, voids, i32-field}
 
 -- an answer that the promise admits is the only one
 the-one : (t : TType) (d : ℕ) (s : List ℕ) (x : Outcome) → SkipAnswers defaultLimits s 0 d 0 t x → Settled (skipped t d s x)
