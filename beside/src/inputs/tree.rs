@@ -67,7 +67,7 @@ impl Write {
     }
 }
 
-const SCALARS: [TType; 8] = [
+const LEAVES: [TType; 8] = [
     TType::Bool,
     TType::I08,
     TType::I16,
@@ -163,7 +163,7 @@ impl Grower<'_> {
         if nest {
             self.rng.pick(&NESTING)
         } else {
-            self.rng.pick(&SCALARS)
+            self.rng.pick(&LEAVES)
         }
     }
 

@@ -1,5 +1,6 @@
 // One line: the call that it stands for, made, and the answer held against the line's.
 use crate::line;
+use rows::Stepped;
 use text::Span;
 
 fn equal(a: &[u8], b: &[u8]) -> bool {
@@ -32,28 +33,19 @@ fn small(n: u64) -> u8 {
     (n % 256) as u8
 }
 
-// Whether a number stands at a place of a record.
-fn stands(record: &[u8], at: usize, n: u64) -> bool {
-    let mut eight = [0u8; 8];
-    number::put::put64(&mut eight, n);
-    if record.len() < 8 {
-        return false;
+// The answer's six numbers come first in a line.
+fn same_row(stepped: Stepped, w: &[u64; 17]) -> bool {
+    match stepped {
+        Stepped::Set(row) => {
+            row.number == w[0]
+                && row.place == w[1]
+                && row.a == w[2]
+                && row.b == w[3]
+                && row.c == w[4]
+                && row.d == w[5]
+        }
+        Stepped::Unknown => false,
     }
-    if record.len() - 8 < at {
-        return false;
-    }
-    let there = &record[at..at + 8];
-    equal(there, &eight)
-}
-
-// The answer's six numbers come first in a line, and are all that a record holds.
-fn same_record(record: &[u8], w: &[u64; 17]) -> bool {
-    stands(record, 0, w[0])
-        && stands(record, 8, w[1])
-        && stands(record, 16, w[2])
-        && stands(record, 24, w[3])
-        && stands(record, 32, w[4])
-        && stands(record, 40, w[5])
 }
 
 // The first so many bytes, none where there are fewer.
@@ -69,11 +61,8 @@ fn same_read(line: &[u8]) -> bool {
     let at = line::numbers(line, 2, &mut w);
     let mut input = [0u8; 64];
     let length = line::bytes(line, at, &mut input).value;
-    let mut kept = [0u8; 48];
-    let done = probe::thrift_read(
-        front(&input, length),
+    let call = read_steps::asked_with(
         w[16] as usize,
-        small(w[6]),
         small(w[7]),
         small(w[8]),
         w[9] as usize,
@@ -83,9 +72,8 @@ fn same_read(line: &[u8]) -> bool {
         w[13] as usize,
         w[14] as usize,
         w[15] as usize,
-        &mut kept,
     );
-    done == 0 && same_record(&kept, &w)
+    same_row(read_steps::by_number(front(&input, length), small(w[6]), call), &w)
 }
 
 // `w REFUSAL PLACE A B C D STEP STRICT KIND OTHER ABSENT NUMBER STRUCT_DEPTH STRUCTS PLACE LENGTH 0 TEXT WRITTEN`
@@ -105,30 +93,25 @@ fn same_write(line: &[u8]) -> bool {
         w[14] as usize,
         &mut wanted_out,
     );
-    let mut kept = [0u8; 48];
-    let done = write_step(&w, front(&input, given.value), &mut out, &mut kept);
-    done == 0 && same_record(&kept, &w) && equal(&out, &wanted_out)
+    same_row(write_step(&w, front(&input, given.value), &mut out), &w) && equal(&out, &wanted_out)
 }
 
-fn write_step(w: &[u64; 17], text: &[u8], out: &mut [u8], kept: &mut [u8]) -> u32 {
+fn write_step(w: &[u64; 17], text: &[u8], out: &mut [u8]) -> Stepped {
     let length = w[15] as usize;
     if out.len() < length {
-        return 1;
+        return Stepped::Unknown;
     }
-    probe::thrift_write(
-        &mut out[0..length],
+    let call = write_steps::asked_with(
         w[14] as usize,
-        small(w[6]),
         small(w[7]),
         small(w[8]),
         small(w[9]),
         small(w[10]),
         w[11],
-        text,
         w[12] as usize,
         w[13] as usize,
-        kept,
-    )
+    );
+    write_steps::by_number(&mut out[0..length], small(w[6]), call, text)
 }
 
 fn put_at(bytes: &[u8], place: usize, out: &mut [u8]) {

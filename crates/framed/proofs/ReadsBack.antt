@@ -1,6 +1,6 @@
 -- A frame that is written reads back, but for an empty payload, which writes nothing. Assumes nothing.
 use Prim.Native.Nat.{ℕ, _<_}
-use mathlib.Core.Path.{_≡_, _∙_}
+use mathlib.Core.Path.{_≡_, sym, _∙_}
 use mathlib.Core.Bool.{false}
 use mathlib.Core.List.{List}
 use native.Mathlib.Omega.{arith}
@@ -13,7 +13,8 @@ use Rattle.text.specs.Texts.{bytesIn}
 use Rattle.text.specs.declared.Span.{Span}
 use Rattle.text.proofs.Fronts.{length-sized}
 use Rattle.tree.proofs.Parts.{part-length}
-use Rattle.write.proofs.Outputs.{short}
+use Rattle.wire.proofs.Writes.{put-down}
+use Rattle.write.proofs.Outputs.{short, is-short}
 use Rattle.write.proofs.ReadsBack.{stands, sized-found}
 use Rattle.framed.specs.Frames.{frame, frameAt, frameOutput}
 use Rattle.framed.proofs.Frames.{a-frame, full}
@@ -24,11 +25,13 @@ pub record Framed (limit : Limit) (s : List ℕ) (at : ℕ) (payload : List ℕ)
   pub gave : gives (frame place) next ≡ frameAt limit s at
   pub bytes : bytesIn s place ≡ payload
 
-pub frame-back : (limit : Limit) (payload out : List ℕ) (at : ℕ) {new : List ℕ} {next : ℕ} → 0 < length payload → length payload < 2147483648
+pub frame-back : (limit : Limit) (payload out : List ℕ) (at : ℕ) {new : List ℕ} {next : ℕ} → 0 < length payload
     → above (length payload) limit ≡ false → gives new next ≡ writeAt (frameOutput payload at) out at → Framed limit new at payload next
-frame-back limit payload out at some small below e =
-    let p = stands _ out at (short payload at (omega arith) ∙ full payload at (λ z. omega arith)) e in
-    let found = sized-found 18 limit payload small below p in
+frame-back limit payload out at some below e =
+    let f = full payload at (λ z. omega arith) in
+    let h = is-short payload at (put-down (frameOutput payload at) out at e .gave ∙ sym f) in
+    let p = stands _ out at (short payload at h ∙ f) e in
+    let found = sized-found limit payload below p 18 h in
     let l = part-length p in
     record {
       place = found .place;

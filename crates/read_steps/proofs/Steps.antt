@@ -12,20 +12,20 @@ use Rattle.skip.specs.declared.till_depth.Skipped.the-variants as Skip
 use Rattle.rows.specs.declared.Row.{Row}
 use Rattle.rows.specs.declared.Stepped.{Stepped}
 use Rattle.rows.specs.declared.Stepped.the-variants as To
-use Rattle.rows.specs.Rows.{skipRow, skippedRow}
+use Rattle.rows.specs.Rows.{skipRow, depthIn}
 use Rattle.read_steps.specs.declared.Reading.{Reading}
 use Rattle.asked.specs.declared.ReadStep.{ReadStep}
 use Rattle.asked.specs.declared.ReadStep.the-variants as Step
 use Rattle.read_steps.specs.Reads.{SkipStep, ReadSays}
 
 -- the skip hands the struct depth on
-handed : (sd : ℕ) (r : Skipped) → HandsOn sd r → skippedRow r ≡ skipRow sd (toldSkipped r)
+handed : (sd : ℕ) (r : Skipped) → HandsOn sd r → skipRow (depthIn r) (toldSkipped r) ≡ skipRow sd (toldSkipped r)
 handed sd (Skip.Passed c d n) h = rw h
 handed sd (Skip.Refused x n) h = refl
 
 module _ (s : List ℕ) (c : Reading) where
   pub skip-step : {k : Typed} {t : TType} (r : Skipped) {w : Row} → k ≡ Type-of.Known t
-      → SkipSays (c .limits) s (c .place) (c .depth) (c .«struct_depth») t r → w ≡ skippedRow r → SkipStep k s c (To.Set w)
+      → SkipSays (c .limits) s (c .place) (c .depth) (c .«struct_depth») t r → w ≡ skipRow (depthIn r) (toldSkipped r) → SkipStep k s c (To.Set w)
   skip-step r {w} e says f =
       subst (λ (k : Typed). SkipStep k s c (To.Set w)) (sym e)
       (record { outcome = toldSkipped r; answers = says .answers; filled-by = ap To.Set (f ∙ handed _ r (says .hands)) })

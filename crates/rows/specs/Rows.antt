@@ -7,7 +7,6 @@ use mir.Syntax.{Width, w8, w16, w32, w64}
 use mir.Val.{ofZ}
 use Rattle.wire.specs.Answer.{Answer, gives, refused}
 use Rattle.wire.specs.Codes.{typeByte, messageByte}
-use Rattle.wire.specs.Refusals.{kindNumber}
 use Rattle.wire.specs.declared.codes.TType.{TType}
 use Rattle.wire.specs.declared.codes.TMessageType.{TMessageType}
 use Rattle.text.specs.declared.Span.{Span}
@@ -95,7 +94,7 @@ abbrev pub skipRow : ℕ → Outcome → Row
 skipRow sd (ended e n) = row 0 e n sd 0 0
 skipRow sd (cut-off k p n) = row k p n 0 0 0
 
--- the same of the skip's own answer
-abbrev pub skippedRow : Skipped → Row
-skippedRow (Skip.Passed c d n) = row 0 (c .at) n d 0 0
-skippedRow (Skip.Refused x n) = row (kindNumber (x .kind)) (x .place) n 0 0 0
+-- the struct depth in the skip's own answer; a refusal has none
+abbrev pub depthIn : Skipped → ℕ
+depthIn (Skip.Passed c d n) = d
+depthIn (Skip.Refused x n) = 0

@@ -31,11 +31,12 @@ ghost use Rattle.config.specs.Limits.{toldBuilt};
 ghost use Rattle.number.specs.Told.{toldByte, toldBool, toldI8, toldI16, toldI32, toldI64, toldDouble};
 ghost use Rattle.text.specs.Told.{toldText};
 ghost use Rattle.read.specs.Told.{toldType, toldField, toldList, toldSet, toldMap, toldDepth};
+ghost use Rattle.skip.specs.Skips.{toldSkipped};
 ghost use Rattle.scalar.specs.Scalars.{toldScalar};
 ghost use Rattle.message.specs.Told.{toldMessage, toldMessageType};
 ghost use Rattle.framed.specs.Told.{toldFrame};
 ghost use Rattle.write.specs.Outputs.{boolByte};
-ghost use Rattle.rows.specs.Rows.{row, rowBy, noneRow, numberRow, boolRow, bitsRow, doubleRow, spanRow, typeRow, fieldRow, listRow, setRow, mapRow, messageTypeRow, messageRow, frameRow, scalarBits, scalarRow, skippedRow};
+ghost use Rattle.rows.specs.Rows.{row, rowBy, noneRow, numberRow, boolRow, bitsRow, doubleRow, spanRow, typeRow, fieldRow, listRow, setRow, mapRow, messageTypeRow, messageRow, frameRow, scalarBits, scalarRow, skipRow, depthIn};
 
 // The refusal's number or 0, the place after or the refusal's, and up to four values.
 pub struct Row {
@@ -350,7 +351,7 @@ pub fn of_scalar(t: TType, read: ScalarRead) -> Row
 }
 
 pub fn of_skip(skipped: Skipped) -> Row
-    ensures { λ r. ⌜ r ≡ skippedRow skipped ⌝ }
+    ensures { λ r. ⌜ r ≡ skipRow (depthIn skipped) (toldSkipped skipped) ⌝ }
 {
     match skipped {
         Skipped::Passed {

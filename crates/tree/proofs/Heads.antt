@@ -105,8 +105,8 @@ type-is s at {t} {next} e =
     go b q p Type-of.Unknown f h = clash (cc)
 
 -- a 32-bit number that is not negative is its bits, of which the top one is clear
-not-negative : (n : ℕ) → ltZ (toZ w32 n) (pos 0) ≡ false → (toZ w32 n ≡ pos n) × (n < 2147483648)
-not-negative n h = go (decLt n 2147483648)
+as-it-stands : (n : ℕ) → ltZ (toZ w32 n) (pos 0) ≡ false → (toZ w32 n ≡ pos n) × (n < 2147483648)
+as-it-stands n h = go (decLt n 2147483648)
   where
     go : Dec (n < 2147483648) → (toZ w32 n ≡ pos n) × (n < 2147483648)
     go (yes i) = (toZ-pos w32 n i, i)
@@ -115,7 +115,7 @@ not-negative n h = go (decLt n 2147483648)
 -- a size that was read: its four bytes, and that it has 31 bits
 pub record SizeIs (s : List ℕ) (at : ℕ) (v : ℤ) (next : ℕ) : Type 0 where
   pub part : Part s at next (bytesOf 4 (natAbs v))
-  pub positive : natAbs v < 2147483648
+  pub not-negative : natAbs v < 2147483648
 
 pub size-is : (s : List ℕ) (at : ℕ) → Octets s → {v : ℤ} {next : ℕ} → gives v next ≡ sizeAt s at → SizeIs s at v next
 unfolding sizeAt
@@ -126,11 +126,11 @@ size-is s at o {v} {next} e =
     let same : v ≡ a .value = cc (b .gave) in
     let place : a .place ≡ next = cc (b .gave) in
     let n = big (take 4 (drop at s)) in
-    let plain = not-negative n (ap (λ (z : ℤ). ltZ z (pos 0)) (sym (i .value)) ∙ b .test) in
+    let plain = as-it-stands n (ap (λ (z : ℤ). ltZ z (pos 0)) (sym (i .value)) ∙ b .test) in
     let size : natAbs v ≡ n = ap natAbs (same ∙ i .value ∙ plain .0) in
     record {
       part = part-to next (part-is (i .part) (sym (read-written 4 s at o (i .room)) ∙ ap (bytesOf 4) (sym size))) place;
-      positive = rw size (plain .1);
+      not-negative = rw size (plain .1);
     }
 
 -- a text that was read: its body, behind its length
@@ -154,7 +154,7 @@ text-is c s at o {p} {e} h =
     record {
       body = body;
       part = part-join (part-is (z .part) (ap (bytesOf 4) (sym long))) (part-to e (within-part s (a .place) n (w .gave)) last);
-      fits = record { positive = rw long (z .positive); string = rw long (b .test) };
+      fits = record { not-negative = rw long (z .not-negative); string = rw long (b .test) };
     }
 
 -- a container's size that was read
@@ -174,7 +174,7 @@ count-is c least s at o {v} {next} h =
     let same : a .value ≡ v = cc (d .gave) in
     let place : a .place ≡ next = cc (d .gave) in
     subst₂ (λ (x : ℤ) (q : ℕ). CountIs c least s at x q) same place
-    (record { part = z .part; fits = record { positive = z .positive; container = b .test; message = d .test } })
+    (record { part = z .part; fits = record { not-negative = z .not-negative; container = b .test; message = d .test } })
 
 pub record ListIs (c : TConfiguration) (s : List ℕ) (at : ℕ) (t : TType) (v : ℤ) (first : ℕ) : Type 0 where
   pub part : Part s at first (typeByte t ∷ bytesOf 4 (natAbs v))

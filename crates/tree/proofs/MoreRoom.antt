@@ -7,12 +7,13 @@ use lib.ListN.{length}
 use native.Mathlib.Omega.{arith}
 use Rattle.wire.specs.Codes.{leastSize}
 use Rattle.wire.specs.Shapes.{shapeOf}
+use Rattle.wire.specs.declared.codes.TType.{TType}
 use Rattle.wire.specs.declared.shape.Shape.{Shape}
 use Rattle.config.specs.Limits.{Roomier}
 use Rattle.config.specs.declared.configuration.TConfiguration.{TConfiguration}
 use Rattle.config.proofs.Room.{still-within, still-below}
 use Rattle.tree.specs.Tree.{Tree, Fields, Trees, Pairs, scalar, text, struct, list, map, nil, snoc, none, then, empty, with, TextFits, SizeFits, Fits, FieldsFit, TreesFit, PairsFit}
-use Rattle.tree.specs.Answers.{Cut, here, head, field-value, element, key, value, Faults, Stands, IsCut}
+use Rattle.tree.specs.Answers.{Cut, here, head, field-value, element, key, value, OpenStruct, OpenMap, Faults, Stands, IsCut}
 use Rattle.tree.specs.Room.{Unnamed}
 use Rattle.tree.proofs.Parts.{part-longer}
 use Rattle.tree.proofs.Heads.{field-is}
@@ -20,12 +21,12 @@ use Rattle.tree.proofs.Growth.{field-grows, list-grows, map-grows, stru
 
 module _ (old new : TConfiguration) (r : Roomier old new) where
   text-more : (n : ℕ) → TextFits old n → TextFits new n
-  text-more n f = record { positive = f .positive; string = still-within n (old .«max_string_size») (new .«max_string_size») (r .string) (f .string) }
+  text-more n f = record { not-negative = f .not-negative; string = still-within n (old .«max_string_size») (new .«max_string_size») (r .string) (f .string) }
 
   size-more : (least n : ℕ) → SizeFits old least n → SizeFits new least n
   size-more least n f =
       record {
-        positive = f .positive;
+        not-negative = f .not-negative;
         container = still-within n (old .«max_container_size») (new .«max_container_size») (r .container) (f .container);
         message = still-within (n * least) (old .«max_message_size») (new .«max_message_size») (r .message) (f .message);
       }
@@ -100,41 +101,59 @@ module _ (old new : TConfiguration) (r : Roomier old new) where
         structs = u .structs;
       }
 
+  -- a struct or a map that is open stays open, with what comes next in it
+  module _ (s x : List ℕ) (at d e sd : ℕ) (sh : Shape) (h : at ≤ length s) (i : d ≤ e) where
+    struct-open : (fs : Fields) {rest rest' : ℕ → Type 0} (f : OpenStruct old s at d sd sh fs rest) → rest' (f .mid)
+        → OpenStruct new (s ++ x) at e sd sh fs rest'
+    struct-open fs f next =
+        record {
+          deep = omega (arith, f .deep);
+          shape = f .shape;
+          begun = struct-grows old new r d e i s x sd at h .given (sd + 1) at (f .begun);
+          mid = f .mid;
+          part = part-longer x (f .part);
+          fits = fields-more fs (d - 1) (e - 1) (sd + 1) (omega arith) (f .fits);
+          next = next;
+        }
+
+    map-open : (ps : Pairs) {rest rest' : TType → TType → ℕ → Type 0} (f : OpenMap old s at d sh sd ps rest) → rest' (f .key) (f .value) (f .mid)
+        → OpenMap new (s ++ x) at e sh sd ps rest'
+    map-open ps f next =
+        record {
+          deep = omega (arith, f .deep);
+          shape = f .shape;
+          key = f .key;
+          value = f .value;
+          size = f .size;
+          first = f .first;
+          header = map-grows old new r d e i s x at h .given _ _ (f .header);
+          more = f .more;
+          mid = f .mid;
+          part = part-longer x (f .part);
+          fits = pairs-more ps (d - 1) (e - 1) sd (shapeOf (f .key)) (shapeOf (f .value)) (omega arith) (f .fits);
+          next = next;
+        }
+
   cut-more : (k : Cut) (s x : List ℕ) (at d e sd : ℕ) (sh : Shape) (n p : ℕ) → at ≤ length s → d ≤ e → Unnamed old new d e x n
       → Faults old s at d sd sh k n p → Faults new (s ++ x) at e sd sh k n p
   unfolding Faults
   cut-more here s x at d e sd sh n p h i u f = own-grows old new r d e i s x sd sh at h .kept n p u f
   cut-more (head fs) s x at d e sd sh n p h i u f =
-      record {
-        deep = omega (arith, f .deep);
-        shape = f .shape;
-        begun = struct-grows old new r d e i s x sd at h .given (sd + 1) at (f .begun);
-        mid = f .mid;
-        part = part-longer x (f .part);
-        fits = fields-more fs (d - 1) (e - 1) (sd + 1) (omega arith) (f .fits);
-        next = field-grows (Unnamed old new d e x) s x (λ j. j .short refl) (f .mid) (f .part .within) .kept n p u (f .next);
-      }
+      struct-open s x at d e sd sh h i fs f
+      (field-grows (Unnamed old new d e x) s x (λ j. j .short refl) (f .mid) (f .part .within) .kept n p u (f .next))
   cut-more (field-value fs k) s x at d e sd sh n p h i u f =
       let v = f .next in
-      record {
-        deep = omega (arith, f .deep);
-        shape = f .shape;
-        begun = struct-grows old new r d e i s x sd at h .given (sd + 1) at (f .begun);
-        mid = f .mid;
-        part = part-longer x (f .part);
-        fits = fields-more fs (d - 1) (e - 1) (sd + 1) (omega arith) (f .fits);
+      struct-open s x at d e sd sh h i fs f
+      (record {
+        type = v .type;
+        id = v .id;
+        first = v .first;
+        header = field-grows (Unnamed old new d e x) s x (λ j. j .short refl) (f .mid) (f .part .within) .given _ _ (v .header);
+        going = v .going;
         next =
-            record {
-              type = v .type;
-              id = v .id;
-              first = v .first;
-              header = field-grows (Unnamed old new d e x) s x (λ j. j .short refl) (f .mid) (f .part .within) .given _ _ (v .header);
-              going = v .going;
-              next =
-                  cut-more k s x (v .first) (d - 1) (e - 1) (sd + 1) (shapeOf (v .type)) n p (field-is s (f .mid) (v .going) (v .header) .part .within)
-                  (omega arith) (below d e x n u) (v .next);
-            };
-      }
+            cut-more k s x (v .first) (d - 1) (e - 1) (sd + 1) (shapeOf (v .type)) n p (field-is s (f .mid) (v .going) (v .header) .part .within)
+            (omega arith) (below d e x n u) (v .next);
+      })
   cut-more (element ts k) s x at d e sd sh n p h i u f =
       record {
         deep = omega (arith, f .deep);
@@ -151,45 +170,17 @@ module _ (old new : TConfiguration) (r : Roomier old new) where
             cut-more k s x (f .mid) (d - 1) (e - 1) sd (shapeOf (f .type)) n p (f .part .within) (omega arith) (below d e x n u) (f .next);
       }
   cut-more (key ps k) s x at d e sd sh n p h i u f =
-      record {
-        deep = omega (arith, f .deep);
-        shape = f .shape;
-        key = f .key;
-        value = f .value;
-        size = f .size;
-        first = f .first;
-        header = map-grows old new r d e i s x at h .given _ _ (f .header);
-        more = f .more;
-        mid = f .mid;
-        part = part-longer x (f .part);
-        fits = pairs-more ps (d - 1) (e - 1) sd (shapeOf (f .key)) (shapeOf (f .value)) (omega arith) (f .fits);
-        next =
-            cut-more k s x (f .mid) (d - 1) (e - 1) sd (shapeOf (f .key)) n p (f .part .within) (omega arith) (below d e x n u) (f .next);
-      }
+      map-open s x at d e sd sh h i ps f
+      (cut-more k s x (f .mid) (d - 1) (e - 1) sd (shapeOf (f .key)) n p (f .part .within) (omega arith) (below d e x n u) (f .next))
   cut-more (value ps t k) s x at d e sd sh n p h i u f =
       let w = f .next in
-      record {
-        deep = omega (arith, f .deep);
-        shape = f .shape;
-        key = f .key;
-        value = f .value;
-        size = f .size;
-        first = f .first;
-        header = map-grows old new r d e i s x at h .given _ _ (f .header);
-        more = f .more;
-        mid = f .mid;
-        part = part-longer x (f .part);
-        fits = pairs-more ps (d - 1) (e - 1) sd (shapeOf (f .key)) (shapeOf (f .value)) (omega arith) (f .fits);
-        next =
-            record {
-              end = w .end;
-              part = part-longer x (w .part);
-              fits = fits-more t (d - 1) (e - 1) sd (shapeOf (f .key)) (omega arith) (w .fits);
-              next =
-                  cut-more k s x (w .end) (d - 1) (e - 1) sd (shapeOf (f .value)) n p (w .part .within) (omega arith) (below d e x n u)
-                  (w .next);
-            };
-      }
+      map-open s x at d e sd sh h i ps f
+      (record {
+        end = w .end;
+        part = part-longer x (w .part);
+        fits = fits-more t (d - 1) (e - 1) sd (shapeOf (f .key)) (omega arith) (w .fits);
+        next = cut-more k s x (w .end) (d - 1) (e - 1) sd (shapeOf (f .value)) n p (w .part .within) (omega arith) (below d e x n u) (w .next);
+      })
 
   -- refused: the same number, place and count, by the same cut tree
   pub is-cut-more : (s x : List ℕ) (at d e sd : ℕ) (sh : Shape) (n p count : ℕ) → at ≤ length s → d ≤ e → Unnamed old new d e x n

@@ -73,11 +73,11 @@ sized-reads {s} {at} {e} over limit b f g p =
 
 pub text-reads : {s : List ℕ} {at e : ℕ} (c : TConfiguration) (b : List ℕ) → TextFits c (length b) → Part s at e (sizedLayout b)
     → gives (span (at + 4) e) e ≡ bytesAt (c .«max_string_size») s at
-text-reads c b f p = sized-reads 7 (c .«max_string_size») b (f .positive) (f .string) p
+text-reads c b f p = sized-reads 7 (c .«max_string_size») b (f .not-negative) (f .string) p
 
 pub count-reads : {s : List ℕ} {at e : ℕ} (c : TConfiguration) (least n : ℕ) → SizeFits c least n → Part s at e (bytesOf 4 n)
     → gives (pos n) e ≡ countAt c least s at
-count-reads {s} {at} {e} c least n f p = headers.count c least s at (size-reads n (f .positive) p) (f .container) (f .message)
+count-reads {s} {at} {e} c least n f p = headers.count c least s at (size-reads n (f .not-negative) p) (f .container) (f .message)
 
 pub list-reads : {s : List ℕ} {at e : ℕ} (c : TConfiguration) (t : TType) (n : ℕ) → Reads t → SizeFits c (leastSize t) n
     → Part s at e (typeByte t ∷ bytesOf 4 n) → gives (list t (pos n)) e ≡ listAt c s at

@@ -23,7 +23,7 @@ use Rattle.text.specs.declared.Span.{Span}
 use Rattle.read.specs.Headers.{field, fieldAt, list, listAt, map, mapAt, structBeginAt}
 use Rattle.tree.specs.Part.{Part}
 use Rattle.tree.specs.Tree.{Fields, Trees, Pairs, scalar, text, struct, list as list-of, map as map-of, nil, snoc, none, then, empty, with, layout, fieldsLayout, treesLayout, pairsLayout, valuesOf, fieldsValues, treesValues, pairsValues, countOf, pairsOf, SizeFits, Fits, FieldsFit, TreesFit, PairsFit}
-use Rattle.tree.specs.Answers.{shapeOwn, ownAt, here, head, field-value, element, key, value, begunOf, Faults, Stands, IsCut}
+use Rattle.tree.specs.Answers.{shapeOwn, ownAt, here, head, field-value, element, key, value, begunOf, OpenStruct, OpenMap, Faults, Stands, IsCut}
 use Rattle.tree.proofs.Parts.{part-none, part-is, part-join, part-length}
 use Rattle.tree.proofs.Heads.{within-part, text-is, field-is, stop-is, list-is, map-is, struct-is}
 use Rattle.tree.proofs.Bounds.{fields-le, trees-le, pairs-le}
@@ -111,14 +111,13 @@ module _ (c : TConfiguration) (s : List ℕ) (at d sd : ℕ) where
         counted = w .counted;
       }
 
+  -- it is open where the loop stands
+  open-struct : {cur count : ℕ} {rest : ℕ → Type 0} (w : StructLoop cur count) → rest cur → OpenStruct c s at d sd Sh.Fields (w .fs) rest
+  open-struct {cur} w x = record { deep = w .deep; shape = refl; begun = w .begun; mid = cur; part = w .part; fits = w .fits; next = x }
+
   pub struct-head-cut : (cur count n p : ℕ) → StructLoop cur count → refused n p ≡ fieldAt s cur → IsCut c s at d sd Sh.Fields n p count
   unfolding Faults begunOf
-  struct-head-cut cur count n p w f =
-      record {
-        cut = head (w .fs);
-        fault = record { deep = w .deep; shape = refl; begun = w .begun; mid = cur; part = w .part; fits = w .fits; next = f };
-        counted = w .counted;
-      }
+  struct-head-cut cur count n p w f = record { cut = head (w .fs); fault = open-struct w f; counted = w .counted }
 
   pub struct-value-cut : (cur count : ℕ) {t : TType} {id : ℤ} {q n p m : ℕ} → StructLoop cur count → isStop t ≡ false
       → gives (field t id) q ≡ fieldAt s cur → IsCut c s q (d - 1) (sd + 1) (shapeOf t) n p m → IsCut c s at d sd Sh.Fields n p (count + m)
@@ -126,16 +125,7 @@ module _ (c : TConfiguration) (s : List ℕ) (at d sd : ℕ) where
   struct-value-cut cur count {t} {id} {q} w g f x =
       record {
         cut = field-value (w .fs) (x .cut);
-        fault =
-            record {
-              deep = w .deep;
-              shape = refl;
-              begun = w .begun;
-              mid = cur;
-              part = w .part;
-              fits = w .fits;
-              next = record { type = t; id = id; first = q; header = f; going = g; next = x .fault };
-            };
+        fault = open-struct w (record { type = t; id = id; first = q; header = f; going = g; next = x .fault });
         counted = omega (arith, w .counted, x .counted);
       }
 
@@ -294,51 +284,37 @@ module _ (c : TConfiguration) (s : List ℕ) (at d sd : ℕ) where
         counted = w .counted;
       }
 
+  -- it is open where the loop stands
+  open-map : {k v : TType} {size : ℤ} {first cur count i : ℕ} {rest : TType → TType → ℕ → Type 0} (w : MapLoop k v size first cur count i) → i < natAbs size
+      → rest k v cur → OpenMap c s at d Sh.Pairs sd (w .ps) rest
+  open-map {k} {v} {size} {first} {cur} w q x =
+      record {
+        deep = w .deep;
+        shape = refl;
+        key = k;
+        value = v;
+        size = size;
+        first = first;
+        header = w .header;
+        more = omega (arith, w .passed);
+        mid = cur;
+        part = w .part;
+        fits = w .fits;
+        next = x;
+      }
+
   pub map-key-cut : {k v : TType} {size : ℤ} {first cur count i n p m : ℕ} → MapLoop k v size first cur count i → i < natAbs size
       → IsCut c s cur (d - 1) sd (shapeOf k) n p m → IsCut c s at d sd Sh.Pairs n p (count + m)
   unfolding Faults begunOf
-  map-key-cut {k} {v} {size} {first} {cur} w q x =
-      record {
-        cut = key (w .ps) (x .cut);
-        fault =
-            record {
-              deep = w .deep;
-              shape = refl;
-              key = k;
-              value = v;
-              size = size;
-              first = first;
-              header = w .header;
-              more = omega (arith, w .passed);
-              mid = cur;
-              part = w .part;
-              fits = w .fits;
-              next = x .fault;
-            };
-        counted = omega (arith, w .counted, x .counted);
-      }
+  map-key-cut w q x = record { cut = key (w .ps) (x .cut); fault = open-map w q (x .fault); counted = omega (arith, w .counted, x .counted) }
 
   pub map-value-cut : {k v : TType} {size : ℤ} {first cur count i e m n p m' : ℕ} → MapLoop k v size first cur count i → i < natAbs size
       → Stands c s cur (d - 1) sd (shapeOf k) e m → IsCut c s e (d - 1) sd (shapeOf v) n p m' → IsCut c s at d sd Sh.Pairs n p (count + m + m')
   unfolding Faults begunOf
-  map-value-cut {k} {v} {size} {first} {cur} {e = e} w q y x =
+  map-value-cut {e = e} w q y x =
       record {
         cut = value (w .ps) (y .tree) (x .cut);
-        fault =
-            record {
-              deep = w .deep;
-              shape = refl;
-              key = k;
-              value = v;
-              size = size;
-              first = first;
-              header = w .header;
-              more = omega (arith, w .passed);
-              mid = cur;
-              part = w .part;
-              fits = w .fits;
-              next = record { end = e; part = y .part; fits = y .fits; next = x .fault };
-            };
+        fault = open-map w q (record { end = e; part = y .part; fits = y .fits; next = x .fault });
         counted = omega (arith, w .counted, y .counted, x .counted);
       }
 

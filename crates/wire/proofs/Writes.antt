@@ -17,7 +17,7 @@ use Rattle.wire.specs.declared.cursor.Cursor.{Cursor}
 use Rattle.wire.specs.declared.cursor.Moved.{Moved}
 use Rattle.wire.specs.declared.cursor.Moved.the-variants as M
 use Rattle.wire.specs.declared.refusal.Refusal.{Refusal}
-use Rattle.wire.proofs.Answers.{passed}
+use Rattle.wire.proofs.Answers.{passed, went}
 use Rattle.wire.proofs.Unique.{moved-settled}
 
 module _ (n at w : ℕ) where
@@ -85,6 +85,19 @@ module _ (output : Answer (List ℕ)) (out : List ℕ) (at : ℕ) where
     pub writes : {next : ℕ} {new : List ℕ} → gives tt next ≡ roomFor (length out) at w → new ≡ laid bs out at → gives new next ≡ writeAt output out at
     unfolding writeAt andThen refuseIf
     writes f g = let i = has-room (length out) at w f in rw (← e, l, i .inside, i .enough, i .after, g)
+
+-- a write that was accepted had no fault of its own: the bytes that it put down
+pub record Put (output : Answer (List ℕ)) : Type 0 where
+  pub bytes : List ℕ
+  pub place : ℕ
+  pub gave : gives bytes place ≡ output
+
+pub put-down : (output : Answer (List ℕ)) (out : List ℕ) (at : ℕ) {new : List ℕ} {next : ℕ} → gives new next ≡ writeAt output out at → Put output
+unfolding writeAt
+put-down output out at e =
+    let a = passed (ltb (length out) at) 2 at _ e in
+    let b = went output _ (a .gave) in
+    record { bytes = b .value; place = b .place; gave = b .gave }
 
 -- what a leaf puts in front of the part that it was lent stands in the whole buffer
 module _ (bs out : List ℕ) (at : ℕ) where

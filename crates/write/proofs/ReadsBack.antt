@@ -18,22 +18,20 @@ use mir.Val.{SFits, bits, toZ, ofZ}
 use Rattle.wire.specs.Answer.{Answer, gives, andThen}
 use Rattle.wire.specs.Writes.{laid, writeAt, putAt}
 use Rattle.wire.proofs.Answers.{passed}
-use Rattle.wire.proofs.Writes.{length-laid}
+use Rattle.wire.proofs.Writes.{put-down, length-laid}
 use Rattle.number.specs.BigEndian.{big, bytesOf}
 use Rattle.number.specs.Reads.{numberAt, byteAt, boolAt, i8At, i16At, i32At, i64At, doubleAt}
 use Rattle.number.proofs.Widths.{written, signed-written, length-bytesOf}
 use Rattle.config.specs.Limits.{above}
 use Rattle.config.specs.declared.limit.Limit.{Limit}
-use Rattle.config.specs.declared.configuration.TConfiguration.{TConfiguration}
 use Rattle.text.specs.Texts.{span, sizedLayout, bytesIn, sizedAt, bytesAt, stringAt, uuidAt}
 use Rattle.text.specs.declared.Span.{Span}
 use Rattle.text.proofs.Texts as texts
 use Rattle.tree.specs.Part.{Part}
-use Rattle.tree.specs.Tree.{TextFits}
 use Rattle.tree.proofs.Parts.{part-length, part-split}
 use Rattle.tree.proofs.Reading.{part-within, number-reads, sized-reads}
 use Rattle.write.specs.Outputs.{boolByte, bytesOutput, namedOutput}
-use Rattle.write.proofs.Outputs.{Name, short, with-name}
+use Rattle.write.proofs.Outputs.{Name, short, is-short, with-name, written-name}
 
 -- bytes that were laid stand where they were laid
 pub laid-part : (bs out : List ℕ) (at : ℕ) → at + length bs ≤ length out → Part (laid bs out at) at (at + length bs) bs
@@ -64,27 +62,20 @@ pub record Found (s b : List ℕ) (read : Answer Span) (next : ℕ) : Type 0 whe
   pub gave : gives place next ≡ read
   pub bytes : bytesIn s place ≡ b
 
--- a size and its bytes, with any number for the limit
-pub sized-found : {s : List ℕ} {at e : ℕ} (over : ℕ) (limit : Limit) (b : List ℕ) → length b < 2147483648 → above (length b) limit ≡ false
-    → Part s at e (sizedLayout b) → Found s b (sizedAt over limit s at) e
-sized-found {s} {at} {e} over limit b f g p =
-    let sp = part-split (bytesOf 4 (length b)) b p in
-    let l = part-length (sp .left) in
-    let mid : sp .mid ≡ at + 4 = omega (arith, length-bytesOf 4 (length b), l) in
-    record { place = span (at + 4) e; gave = sized-reads over limit b f g p; bytes = rw mid at (sp .right .bytes) }
+-- a size and its bytes within the reader's limit
+module _ {s : List ℕ} {at e : ℕ} (limit : Limit) (b : List ℕ) (below : above (length b) limit ≡ false) (p : Part s at e (sizedLayout b)) where
+  -- with any number for the limit
+  pub sized-found : (over : ℕ) → length b ≤ 2147483647 → Found s b (sizedAt over limit s at) e
+  sized-found over h =
+      let sp = part-split (bytesOf 4 (length b)) b p in
+      let l = part-length (sp .left) in
+      let mid : sp .mid ≡ at + 4 = omega (arith, length-bytesOf 4 (length b), l) in
+      record { place = span (at + 4) e; gave = sized-reads over limit b (omega arith) below p; bytes = rw mid at (sp .right .bytes) }
 
-module _ {s : List ℕ} {at e : ℕ} (c : TConfiguration) (b : List ℕ) (f : TextFits c (length b)) (p : Part s at e (sizedLayout b)) where
-  pub text-found : Found s b (bytesAt (c .«max_string_size») s at) e
-  text-found = sized-found 7 (c .«max_string_size») b (f .positive) (f .string) p
-
-  pub string-found : Name b → Found s b (stringAt (c .«max_string_size») s at) e
+  pub string-found : Name b → Found s b (stringAt limit s at) e
   string-found n =
-      let t = text-found in
-      record {
-        place = t .place;
-        gave = texts.string (c .«max_string_size») s at (t .gave) (rw (t .bytes) (n .utf8));
-        bytes = t .bytes;
-      }
+      let t = sized-found 7 (n .short) in
+      record { place = t .place; gave = texts.string limit s at (t .gave) (rw (t .bytes) (n .utf8)); bytes = t .bytes }
 
 module _ (out : List ℕ) (at : ℕ) {new : List ℕ} {next : ℕ} where
   -- numbers, at any width
@@ -133,11 +124,14 @@ module _ (out : List ℕ) (at : ℕ) {new : List ℕ} {next : ℕ} where
       let p = stands _ out at refl e in
       record { place = span at next; gave = texts.uuid new at (part-within id 16 l p); bytes = p .bytes }
 
-  -- bytes, and strings that are UTF-8
-  pub bytes-back : (c : TConfiguration) (b : List ℕ) → TextFits c (length b) → gives new next ≡ writeAt (bytesOutput b at) out at
-      → Found new b (bytesAt (c .«max_string_size») new at) next
-  bytes-back c b f e = text-found c b f (stands _ out at (short b at (omega (arith, f .positive))) e)
+  -- bytes and strings, within the reader's limit
+  module _ (limit : Limit) (b : List ℕ) (below : above (length b) limit ≡ false) where
+    pub bytes-back : gives new next ≡ writeAt (bytesOutput b at) out at → Found new b (bytesAt limit new at) next
+    bytes-back e =
+        let h = is-short b at (put-down (bytesOutput b at) out at e .gave) in
+        sized-found limit b below (stands _ out at (short b at h) e) 7 h
 
-  pub string-back : (c : TConfiguration) (b : List ℕ) → TextFits c (length b) → Name b → gives new next ≡ writeAt (namedOutput b (sizedLayout b) at) out at
-      → Found new b (stringAt (c .«max_string_size») new at) next
-  string-back c b f n e = string-found c b f (stands _ out at (with-name (sizedLayout b) at n) e) n
+    pub string-back : gives new next ≡ writeAt (namedOutput b (sizedLayout b) at) out at → Found new b (stringAt limit new at) next
+    string-back e =
+        let n = written-name b (sizedLayout b) out at e in
+        string-found limit b below (stands _ out at (with-name (sizedLayout b) at n) e) n

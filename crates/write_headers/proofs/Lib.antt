@@ -1,4 +1,2 @@
-pub mod Headers
-pub mod MessagesBack
 pub mod Outputs
 pub mod ReadsBack

@@ -162,7 +162,7 @@ fn still(out: &[u8], at: Cursor, call: Writing, step: Still) -> Row
         max_string_size: Limit::Absent,
     };
     match step {
-        Still::MessageEnd => rows::of_moved(write_headers::messages::write_message_end(out, at)),
+        Still::MessageEnd => rows::of_moved(write_message::write_message_end(out, at)),
         Still::StructBegin => {
             rows::of_depth(write::structs::write_struct_begin(out, at, depth, limits))
         }
@@ -208,7 +208,7 @@ fn message_by_kind(out: &mut [u8], at: Cursor, call: Writing, name: &[u8]) -> St
     let sequence = low_i32(call.number);
     match wire::codes::message_type_from_u8(call.kind) {
         Messaged::Known(t) => {
-            let moved = write_headers::messages::write_message_begin(
+            let moved = write_message::write_message_begin(
                 out,
                 at,
                 strict,

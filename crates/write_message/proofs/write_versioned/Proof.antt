@@ -3,10 +3,10 @@ use borrow.Author.Needs.{needs}
 use mathlib.Core.Path.{refl}
 use mathlib.Core.Bool.{true}
 use Rattle.message.specs.Layouts.{messageLayout}
-use Rattle.write_headers.proofs.Headers.{length-versioned}
+use Rattle.write_message.proofs.Pieces.{length-versioned}
 use Rattle.write.proofs.Whole.{starts, part-room, unwritten, written}
-use Rattle.write_headers.proofs.messages.write_versioned.Statement.{statement}
-use Rattle.write_headers.proofs.messages.write_versioned.Tie as tie
+use Rattle.write_message.proofs.write_versioned.Statement.{statement}
+use Rattle.write_message.proofs.write_versioned.Tie as tie
 
 pub write-versioned-spec : {M : Type 1} → statement M
 write-versioned-spec =

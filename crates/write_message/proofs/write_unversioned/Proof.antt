@@ -3,10 +3,10 @@ use borrow.Author.Needs.{needs}
 use mathlib.Core.Path.{refl}
 use mathlib.Core.Bool.{false}
 use Rattle.message.specs.Layouts.{messageLayout}
-use Rattle.write_headers.proofs.Headers.{length-unversioned}
+use Rattle.write_message.proofs.Pieces.{length-unversioned}
 use Rattle.write.proofs.Whole.{starts, part-room, unwritten, written}
-use Rattle.write_headers.proofs.messages.write_unversioned.Statement.{statement}
-use Rattle.write_headers.proofs.messages.write_unversioned.Tie as tie
+use Rattle.write_message.proofs.write_unversioned.Statement.{statement}
+use Rattle.write_message.proofs.write_unversioned.Tie as tie
 
 pub write-unversioned-spec : {M : Type 1} → statement M
 write-unversioned-spec =

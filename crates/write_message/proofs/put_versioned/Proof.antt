@@ -1,8 +1,8 @@
 -- Assumes nothing.
 use borrow.Author.Needs.{needs}
-use Rattle.write_headers.proofs.Headers.{versioned}
-use Rattle.write_headers.proofs.messages.put_versioned.Statement.{statement}
-use Rattle.write_headers.proofs.messages.put_versioned.Tie as tie
+use Rattle.write_message.proofs.Pieces.{versioned}
+use Rattle.write_message.proofs.put_versioned.Statement.{statement}
+use Rattle.write_message.proofs.put_versioned.Tie as tie
 
 pub put-versioned-spec : {M : Type 1} → statement M
 put-versioned-spec =

@@ -16,7 +16,8 @@ use Rattle.wire.proofs.RoundTrips.{message-written}
 use Rattle.number.specs.BigEndian.{big, bytesOf}
 use Rattle.number.specs.Reads.{byteAt, i32At}
 use Rattle.number.proofs.Widths.{signed-written, length-bytesOf}
-use Rattle.config.specs.declared.configuration.TConfiguration.{TConfiguration}
+use Rattle.config.specs.Limits.{above}
+use Rattle.config.specs.declared.limit.Limit.{Limit}
 use Rattle.text.specs.Texts.{sizedLayout, bytesIn}
 use Rattle.text.specs.declared.Span.{Span}
 use Rattle.message.specs.Layouts.{messageLayout}
@@ -24,11 +25,10 @@ use Rattle.message.specs.Messages.{messageTypeAt, message, messageAt}
 use Rattle.message.specs.declared.TMessageIdentifier.{TMessageIdentifier}
 use Rattle.message.proofs.Messages as messages
 use Rattle.tree.specs.Part.{Part}
-use Rattle.tree.specs.Tree.{TextFits}
 use Rattle.tree.proofs.Parts.{part-split, part-first}
 use Rattle.tree.proofs.Reading.{part-within, number-reads}
 use Rattle.write.specs.Outputs.{namedOutput}
-use Rattle.write.proofs.Outputs.{Name, with-name}
+use Rattle.write.proofs.Outputs.{Name, with-name, written-name}
 use Rattle.write.proofs.ReadsBack.{stands, string-found}
 
 -- a header that was read: type, sequence number, and a name whose bytes are those that were written
@@ -56,9 +56,9 @@ clear-top n h p =
     let first = part-first p in
     rw (first .byte) (omega arith)
 
-module _ (c : TConfiguration) (name : List ℕ) (t : TMessageType) (seq : ℤ) (f : TextFits c (length name)) (n : Name name) (g : SFits w32 seq)
+module _ (limit : Limit) (name : List ℕ) (t : TMessageType) (seq : ℤ) (below : above (length name) limit ≡ false) (n : Name name) (g : SFits w32 seq)
     {s : List ℕ} {at e : ℕ} where
-  strict-reads : (reader : Bool) → Part s at e (messageLayout true name t (ofZ w32 seq)) → Headed s name t seq (messageAt reader (c .«max_string_size») s at) e
+  strict-reads : (reader : Bool) → Part s at e (messageLayout true name t (ofZ w32 seq)) → Headed s name t seq (messageAt reader limit s at) e
   strict-reads reader p =
       let head : List ℕ = 0x80 ∷ 0x01 ∷ 0x00 ∷ messageByte t ∷ [] in
       let sp = part-split (head ++ sizedLayout name) (bytesOf 4 (ofZ w32 seq)) p in
@@ -68,37 +68,44 @@ module _ (c : TConfiguration) (name : List ℕ) (t : TMessageType) (seq : ℤ) (
       let three = part-first (two .rest) in
       let third : at + 1 + 1 + 1 ≡ at + 3 = omega arith in
       let typed : gives t (sq .mid) ≡ messageTypeAt s (at + 3) = message-type-reads t (rw third at (three .rest)) in
-      let found = string-found c name f (sq .right) n in
+      let found = string-found limit name below (sq .right) n in
       let high : 0x80 ≤ getD s at 0 = rw (one .byte) (omega arith) in
       record {
         place = found .place;
-        gave = messages.newer reader (c .«max_string_size») s at (part-within head 4 refl (sq .left)) high (one .byte) (two .byte)
-            (messages.versioned (c .«max_string_size») s (at + 3) typed (found .gave)
+        gave = messages.newer reader limit s at (part-within head 4 refl (sq .left)) high (one .byte) (two .byte)
+            (messages.versioned limit s (at + 3) typed (found .gave)
             (messages.sequence s (sp .mid) (found .place) t (sequence-reads seq g (sp .right))));
         bytes = found .bytes;
       }
 
-  older-reads : Part s at e (messageLayout false name t (ofZ w32 seq)) → Headed s name t seq (messageAt false (c .«max_string_size») s at) e
+  older-reads : Part s at e (messageLayout false name t (ofZ w32 seq)) → Headed s name t seq (messageAt false limit s at) e
   older-reads p =
       let sp = part-split (sizedLayout name ++ (messageByte t ∷ [])) (bytesOf 4 (ofZ w32 seq)) p in
       let sq = part-split (sizedLayout name) (messageByte t ∷ []) (sp .left) in
       let size = part-split (bytesOf 4 (length name)) name (sq .left) in
-      let low : getD s at 0 < 0x80 = clear-top (length name) (f .positive) (size .left) in
-      let found = string-found c name f (sq .left) n in
+      let low : getD s at 0 < 0x80 = clear-top (length name) (omega (arith, n .short)) (size .left) in
+      let found = string-found limit name below (sq .left) n in
       record {
         place = found .place;
-        gave = messages.older false (c .«max_string_size») s at (part-within (bytesOf 4 (length name)) 4 (length-bytesOf 4 (length name)) (size .left)) low refl
-            (messages.unversioned (c .«max_string_size») s at (found .gave) (message-type-reads t (sq .right))
+        gave = messages.older false limit s at (part-within (bytesOf 4 (length name)) 4 (length-bytesOf 4 (length name)) (size .left)) low refl
+            (messages.unversioned limit s at (found .gave) (message-type-reads t (sq .right))
             (messages.sequence s (sp .mid) (found .place) t (sequence-reads seq g (sp .right))));
         bytes = found .bytes;
       }
 
-module _ (c : TConfiguration) (name : List ℕ) (t : TMessageType) (seq : ℤ) (f : TextFits c (length name)) (n : Name name) (g : SFits w32 seq)
+-- within the reader's limit
+module _ (limit : Limit) (name : List ℕ) (t : TMessageType) (seq : ℤ) (below : above (length name) limit ≡ false) (g : SFits w32 seq)
     (out : List ℕ) (at : ℕ) {new : List ℕ} {next : ℕ} where
   pub strict-message-back : (reader : Bool) → gives new next ≡ writeAt (namedOutput name (messageLayout true name t (ofZ w32 seq)) at) out at
-      → Headed new name t seq (messageAt reader (c .«max_string_size») new at) next
-  strict-message-back reader e = strict-reads c name t seq f n g reader (stands _ out at (with-name (messageLayout true name t (ofZ w32 seq)) at n) e)
+      → Headed new name t seq (messageAt reader limit new at) next
+  strict-message-back reader e =
+      let bs = messageLayout true name t (ofZ w32 seq) in
+      let n = written-name name bs out at e in
+      strict-reads limit name t seq below n g reader (stands _ out at (with-name bs at n) e)
 
   pub older-message-back : gives new next ≡ writeAt (namedOutput name (messageLayout false name t (ofZ w32 seq)) at) out at
-      → Headed new name t seq (messageAt false (c .«max_string_size») new at) next
-  older-message-back e = older-reads c name t seq f n g (stands _ out at (with-name (messageLayout false name t (ofZ w32 seq)) at n) e)
+      → Headed new name t seq (messageAt false limit new at) next
+  older-message-back e =
+      let bs = messageLayout false name t (ofZ w32 seq) in
+      let n = written-name name bs out at e in
+      older-reads limit name t seq below n g (stands _ out at (with-name bs at n) e)

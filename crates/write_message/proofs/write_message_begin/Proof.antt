@@ -11,8 +11,8 @@ use Rattle.sign.proofs.TwosComplement.{sent}
 use Rattle.message.specs.Layouts.{messageLayout}
 use Rattle.write.proofs.Outputs.{a-name, with-name, misnamed}
 use Rattle.write.proofs.Whole.{for-output}
-use Rattle.write_headers.proofs.messages.write_message_begin.Statement.{statement}
-use Rattle.write_headers.proofs.messages.write_message_begin.Tie as tie
+use Rattle.write_message.proofs.write_message_begin.Statement.{statement}
+use Rattle.write_message.proofs.write_message_begin.Tie as tie
 
 pub write-message-begin-spec : {M : Type 1} → statement M
 write-message-begin-spec =

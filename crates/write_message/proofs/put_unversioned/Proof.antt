@@ -1,8 +1,8 @@
 -- Assumes nothing.
 use borrow.Author.Needs.{needs}
-use Rattle.write_headers.proofs.Headers.{unversioned}
-use Rattle.write_headers.proofs.messages.put_unversioned.Statement.{statement}
-use Rattle.write_headers.proofs.messages.put_unversioned.Tie as tie
+use Rattle.write_message.proofs.Pieces.{unversioned}
+use Rattle.write_message.proofs.put_unversioned.Statement.{statement}
+use Rattle.write_message.proofs.put_unversioned.Tie as tie
 
 pub put-unversioned-spec : {M : Type 1} → statement M
 put-unversioned-spec =
