@@ -4,9 +4,9 @@ use mathlib.Core.Bool.{cond}
 use mathlib.Core.List.{List, [], _∷_}
 use lib.Dec.{eqb}
 use lib.ListN.{getD}
-use Rattle.wire.specs.declared.codes.TType.the-variants as T
-use Rattle.wire.specs.declared.codes.Typed.{Typed}
-use Rattle.wire.specs.declared.codes.Typed.the-variants as Type-of
+use Rattle.codes.specs.declared.TType.the-variants as T
+use Rattle.codes.specs.declared.Typed.{Typed}
+use Rattle.codes.specs.declared.Typed.the-variants as Type-of
 use Rattle.config.specs.Limits.{limits}
 use Rattle.config.specs.declared.limit.Limit.{Limit}
 use Rattle.config.specs.declared.limit.Limit.the-variants.{Absent, AtMost}

@@ -6,7 +6,7 @@ use framed::FrameRead;
 use message::MessageRead;
 use number::I32Read;
 use skip::till_depth::Skipped;
-use wire::codes::TType;
+use codes::TType;
 use wire::cursor::Cursor;
 use wire::cursor::Moved;
 use wire::refusal::Refusal;
@@ -61,7 +61,7 @@ fn show_message(bytes: &[u8], strict: bool) {
         MessageRead::Value(m, next) => {
             print(b"type ");
             let t = m.message_type;
-            io::print_decimal(1, wire::codes::message_type_to_u8(t) as u64);
+            io::print_decimal(1, codes::message_type_to_u8(t) as u64);
             print(b", name ");
             print(message::name_part(bytes, start, strict, limits));
             print(b", number ");

@@ -9,11 +9,11 @@ use native.Mathlib.Omega.{arith}
 use borrow.Rule.Slice.PartMut.{putMid}
 use borrow.Author.Tests.{lt-ltb, le-ltb}
 use Rattle.wire.specs.Answer.{Answer, gives, refused}
-use Rattle.wire.specs.Codes.{typeOf}
+use Rattle.codes.specs.Codes.{typeOf}
 use Rattle.wire.specs.Writes.{inFront}
 use Rattle.wire.proofs.Writes.{behind, unfronted}
-use Rattle.wire.specs.declared.codes.Typed.{Typed}
-use Rattle.wire.specs.declared.codes.Typed.the-variants as Type-of
+use Rattle.codes.specs.declared.Typed.{Typed}
+use Rattle.codes.specs.declared.Typed.the-variants as Type-of
 use Rattle.number.specs.BigEndian.{bytesOf}
 use Rattle.number.proofs.Widths.{length-bytesOf}
 use Rattle.config.specs.Limits.{defaultLimits}

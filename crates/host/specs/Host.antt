@@ -6,9 +6,9 @@ use mathlib.Core.List.{List, _++_}
 use lib.Dec.{ltb}
 use lib.ListN.{length, drop}
 use Rattle.wire.specs.Answer.{Answer, gives, refused}
-use Rattle.wire.specs.Codes.{typeOf}
-use Rattle.wire.specs.declared.codes.Typed.{Typed}
-use Rattle.wire.specs.declared.codes.Typed.the-variants as Type-of
+use Rattle.codes.specs.Codes.{typeOf}
+use Rattle.codes.specs.declared.Typed.{Typed}
+use Rattle.codes.specs.declared.Typed.the-variants as Type-of
 use Rattle.number.specs.BigEndian.{bytesOf}
 use Rattle.config.specs.Limits.{defaultLimits}
 use Rattle.tree.specs.Answers.{Outcome, ended, cut-off, skipEntry, SkipAnswers}

@@ -1,7 +1,7 @@
 // The desk's call for C and Rust: a skip of one value under the default limits, its answer in a lent record.
 use config::configuration::TConfiguration;
 use skip::till_depth::Skipped;
-use wire::codes::Typed;
+use codes::Typed;
 use wire::cursor::Cursor;
 use wire::refusal::Kind;
 use wire::refusal::Refusal;
@@ -69,7 +69,7 @@ fn refused(kind: Kind, place: usize) -> Skipped
 fn skip_by_byte(bytes: &[u8], place: usize, depth: usize, type_byte: u8) -> Skipped
     ensures { λ r. ⌜ HostAnswers (now (bytes .entry)) place depth «type_byte» (toldSkipped r) ⌝ }
 {
-    match wire::codes::field_type_from_u8(type_byte) {
+    match codes::field_type_from_u8(type_byte) {
         Typed::Known(field_type) => {
             let limits = TConfiguration::default();
             skip::till_depth::skip_till_depth(

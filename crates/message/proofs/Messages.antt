@@ -8,9 +8,9 @@ use lib.Dec.{ltb, eqb}
 use lib.IntN.{ℤ}
 use lib.ListN.{length, getD}
 use Rattle.wire.specs.Answer.{Answer, gives, refused, refuseIf, andThen, within}
-use Rattle.wire.specs.Codes.{messageOf}
-use Rattle.wire.specs.declared.codes.TMessageType.{TMessageType}
-use Rattle.wire.specs.declared.codes.Messaged.the-variants as Message-of
+use Rattle.codes.specs.Codes.{messageOf}
+use Rattle.codes.specs.declared.TMessageType.{TMessageType}
+use Rattle.codes.specs.declared.Messaged.the-variants as Message-of
 use Rattle.wire.proofs.Answers.{first-fault, goes-on, passed, went}
 use Rattle.number.specs.Reads.{byteAt, i32At}
 use Rattle.config.specs.declared.limit.Limit.{Limit}

@@ -1,7 +1,7 @@
 -- No two answers meet a promise of this crate: an answer is settled by what it tells. Assumes nothing.
 use mathlib.Core.Path.{_≡_, refl, ap}
 use Rattle.wire.specs.Answer.{Answer}
-use Rattle.wire.specs.declared.codes.TMessageType.{TMessageType}
+use Rattle.codes.specs.declared.TMessageType.{TMessageType}
 use Rattle.wire.proofs.Refusals.{told-back}
 use Rattle.wire.proofs.Unique.{back, cursor-settled}
 use Rattle.message.specs.Told.{toldMessage, toldMessageType}

@@ -2,8 +2,8 @@
 use Prim.Native.Nat.{ℕ}
 use mathlib.Core.Bool.{Bool, true, false}
 use mathlib.Core.List.{List, [], _∷_, _++_}
-use Rattle.wire.specs.Codes.{messageByte}
-use Rattle.wire.specs.declared.codes.TMessageType.{TMessageType}
+use Rattle.codes.specs.Codes.{messageByte}
+use Rattle.codes.specs.declared.TMessageType.{TMessageType}
 use Rattle.number.specs.BigEndian.{bytesOf}
 use Rattle.text.specs.Texts.{sizedLayout}
 

@@ -1,7 +1,7 @@
 -- What each answer of this crate tells.
 use Rattle.wire.specs.Answer.{Answer, gives}
 use Rattle.wire.specs.Refusals.{toldRefusal}
-use Rattle.wire.specs.declared.codes.TMessageType.{TMessageType}
+use Rattle.codes.specs.declared.TMessageType.{TMessageType}
 use Rattle.message.specs.declared.TMessageIdentifier.{TMessageIdentifier}
 use Rattle.message.specs.declared.MessageRead.{MessageRead}
 use Rattle.message.specs.declared.MessageRead.the-variants as Message-is

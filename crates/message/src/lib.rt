@@ -4,8 +4,8 @@ use number::ByteRead;
 use number::I32Read;
 use text::Span;
 use text::TextRead;
-use wire::codes::Messaged;
-use wire::codes::TMessageType;
+use codes::Messaged;
+use codes::TMessageType;
 use wire::cursor::Cursor;
 use wire::cursor::Moved;
 use wire::refusal::Kind;
@@ -38,7 +38,7 @@ pub fn read_message_type(bytes: &[u8], cursor: Cursor) -> MessageTypeRead
 {
     let at = cursor.at;
     match number::read_byte(bytes, cursor) {
-        ByteRead::Value(b, next) => match wire::codes::message_type_from_u8(b) {
+        ByteRead::Value(b, next) => match codes::message_type_from_u8(b) {
             Messaged::Known(message_type) => MessageTypeRead::Value(message_type, next),
             Messaged::Unknown => MessageTypeRead::Refused(Refusal {
                 kind: Kind::BadMessageType,

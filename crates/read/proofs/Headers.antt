@@ -9,9 +9,9 @@ use borrow.Author.Tests.{lt-ltb, le-ltb, eq-eqb, ne-eqb}
 use lib.IntN.{ℤ, pos, natAbs}
 use lib.ListN.{length}
 use Rattle.wire.specs.Answer.{gives, refused, refuseIf, andThen, mapped}
-use Rattle.wire.specs.Codes.{typeOf, isStop, leastSize}
-use Rattle.wire.specs.declared.codes.TType.{TType}
-use Rattle.wire.specs.declared.codes.Typed.the-variants as Type-of
+use Rattle.codes.specs.Codes.{typeOf, isStop, leastSize}
+use Rattle.codes.specs.declared.TType.{TType}
+use Rattle.codes.specs.declared.Typed.the-variants as Type-of
 use Rattle.wire.proofs.Answers.{first-fault, goes-on}
 use Rattle.number.specs.Reads.{byteAt, i16At}
 use Rattle.config.specs.Limits.{above, reached}

@@ -2,7 +2,7 @@
 use Prim.Native.Nat.{ℕ}
 use mathlib.Core.Path.{_≡_, refl, ap}
 use Rattle.wire.specs.Answer.{Answer}
-use Rattle.wire.specs.declared.codes.TType.{TType}
+use Rattle.codes.specs.declared.TType.{TType}
 use Rattle.wire.proofs.Refusals.{told-back}
 use Rattle.wire.proofs.Unique.{back, cursor-settled}
 use Rattle.read.specs.Told.{toldType, toldField, toldList, toldSet, toldMap, toldDepth}

@@ -5,10 +5,10 @@ use mathlib.Core.List.{List}
 use lib.Dec.{ltb, eqb}
 use lib.IntN.{ℤ, pos, natAbs}
 use Rattle.wire.specs.Answer.{Answer, gives, refused, refuseIf, andThen, mapped, entry}
-use Rattle.wire.specs.Codes.{typeOf, isStop, leastSize}
-use Rattle.wire.specs.declared.codes.TType.{TType}
-use Rattle.wire.specs.declared.codes.Typed.{Typed}
-use Rattle.wire.specs.declared.codes.Typed.the-variants as Type-of
+use Rattle.codes.specs.Codes.{typeOf, isStop, leastSize}
+use Rattle.codes.specs.declared.TType.{TType}
+use Rattle.codes.specs.declared.Typed.{Typed}
+use Rattle.codes.specs.declared.Typed.the-variants as Type-of
 use Rattle.number.specs.Reads.{byteAt, i16At}
 use Rattle.config.specs.Limits.{above, reached}
 use Rattle.config.specs.declared.limit.Limit.{Limit}

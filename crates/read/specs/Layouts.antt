@@ -1,8 +1,8 @@
 -- Apache's layout of the headers: the very bytes, which the tree's layout and the writers both cite.
 use Prim.Native.Nat.{ℕ}
 use mathlib.Core.List.{List, _∷_}
-use Rattle.wire.specs.Codes.{typeByte}
-use Rattle.wire.specs.declared.codes.TType.{TType}
+use Rattle.codes.specs.Codes.{typeByte}
+use Rattle.codes.specs.declared.TType.{TType}
 use Rattle.number.specs.BigEndian.{bytesOf}
 
 -- a field: its type, then the two bytes of its id

@@ -2,7 +2,7 @@
 use Prim.Native.Nat.{ℕ}
 use Rattle.wire.specs.Answer.{Answer, gives}
 use Rattle.wire.specs.Refusals.{toldRefusal}
-use Rattle.wire.specs.declared.codes.TType.{TType}
+use Rattle.codes.specs.declared.TType.{TType}
 use Rattle.read.specs.declared.field.TypeRead.{TypeRead}
 use Rattle.read.specs.declared.field.TypeRead.the-variants as Type-is
 use Rattle.read.specs.declared.field.TFieldIdentifier.{TFieldIdentifier}

@@ -2,7 +2,7 @@
 use crate::field::TypeRead;
 use config::configuration::TConfiguration;
 use number::I32Read;
-use wire::codes::TType;
+use codes::TType;
 use wire::cursor::Cursor;
 use wire::cursor::Moved;
 use wire::refusal::Kind;
@@ -85,7 +85,7 @@ pub fn read_list_begin(bytes: &[u8], cursor: Cursor, config: TConfiguration) -> 
 {
     match crate::field::read_type(bytes, cursor) {
         TypeRead::Value(element_type, next) => {
-            let least = wire::codes::min_serialized_size(element_type);
+            let least = codes::min_serialized_size(element_type);
             match read_count(bytes, next, least, config) {
                 I32Read::Value(size, end) => {
                     ListRead::Value(TListIdentifier { element_type, size }, end)
@@ -129,8 +129,8 @@ pub fn read_map_begin(bytes: &[u8], cursor: Cursor, config: TConfiguration) -> M
     match crate::field::read_type(bytes, cursor) {
         TypeRead::Value(key_type, value_at) => match crate::field::read_type(bytes, value_at) {
             TypeRead::Value(value_type, next) => {
-                let key = wire::codes::min_serialized_size(key_type);
-                let value = wire::codes::min_serialized_size(value_type);
+                let key = codes::min_serialized_size(key_type);
+                let value = codes::min_serialized_size(value_type);
                 match read_count(bytes, next, key + value, config) {
                     I32Read::Value(size, end) => MapRead::Value(
                         TMapIdentifier {

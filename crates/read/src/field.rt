@@ -1,8 +1,8 @@
 // A type byte, and a field's header.
 use number::ByteRead;
 use number::I16Read;
-use wire::codes::TType;
-use wire::codes::Typed;
+use codes::TType;
+use codes::Typed;
 use wire::cursor::Cursor;
 use wire::cursor::Moved;
 use wire::refusal::Kind;
@@ -34,7 +34,7 @@ pub fn read_type(bytes: &[u8], cursor: Cursor) -> TypeRead
 {
     let at = cursor.at;
     match number::read_byte(bytes, cursor) {
-        ByteRead::Value(b, next) => match wire::codes::field_type_from_u8(b) {
+        ByteRead::Value(b, next) => match codes::field_type_from_u8(b) {
             Typed::Known(field_type) => TypeRead::Value(field_type, next),
             Typed::Unknown => TypeRead::Refused(Refusal {
                 kind: Kind::UnknownType,

@@ -6,9 +6,9 @@ use mathlib.Core.List.{List}
 use lib.Dec.{eqb}
 use mir.Syntax.{w8, w16, w32, w64}
 use Rattle.wire.specs.Answer.{stayAt}
-use Rattle.wire.specs.declared.codes.Typed.{Typed}
-use Rattle.wire.specs.declared.codes.Typed.the-variants as Type-of
-use Rattle.wire.specs.declared.codes.TType.{TType}
+use Rattle.codes.specs.declared.Typed.{Typed}
+use Rattle.codes.specs.declared.Typed.the-variants as Type-of
+use Rattle.codes.specs.declared.TType.{TType}
 use Rattle.config.specs.Limits.{builtFrom}
 use Rattle.config.specs.declared.configuration.TConfiguration.{TConfiguration}
 use Rattle.number.specs.Reads.{byteAt, boolAt, i8At, i16At, i32At, i64At, doubleAt}

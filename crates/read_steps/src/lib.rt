@@ -5,7 +5,7 @@ use asked::ReadStep;
 use config::configuration::TConfiguration;
 use rows::Row;
 use rows::Stepped;
-use wire::codes::Typed;
+use codes::Typed;
 use wire::cursor::Cursor;
 ghost use mathlib.Core.Path.{_≡_};
 ghost use Rattle.asked.specs.Asked.{readStepOf, limitsOf};

@@ -3,7 +3,7 @@
 use config::configuration::TConfiguration;
 use read::field::FieldRead;
 use skip::till_depth::Skipped;
-use wire::codes::TType;
+use codes::TType;
 use wire::cursor::Cursor;
 ghost use mathlib.Core.Path.{_≡_};
 ghost use Rattle.config.specs.Limits.{defaultLimits};

@@ -6,9 +6,9 @@ use lib.Ieee.{Float, binary64, toBits}
 use mir.Syntax.{Width, w8, w16, w32, w64}
 use mir.Val.{ofZ}
 use Rattle.wire.specs.Answer.{Answer, gives, refused}
-use Rattle.wire.specs.Codes.{typeByte, messageByte}
-use Rattle.wire.specs.declared.codes.TType.{TType}
-use Rattle.wire.specs.declared.codes.TMessageType.{TMessageType}
+use Rattle.codes.specs.Codes.{typeByte, messageByte}
+use Rattle.codes.specs.declared.TType.{TType}
+use Rattle.codes.specs.declared.TMessageType.{TMessageType}
 use Rattle.text.specs.declared.Span.{Span}
 use Rattle.read.specs.declared.field.TFieldIdentifier.{TFieldIdentifier}
 use Rattle.read.specs.declared.container.TListIdentifier.{TListIdentifier}

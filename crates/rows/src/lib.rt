@@ -20,7 +20,7 @@ use scalar::Scalar;
 use scalar::ScalarRead;
 use skip::till_depth::Skipped;
 use text::TextRead;
-use wire::codes::TType;
+use codes::TType;
 use wire::cursor::Cursor;
 use wire::cursor::Moved;
 use wire::refusal::Refusal;
@@ -169,7 +169,7 @@ pub fn of_type(read: TypeRead) -> Row
     ensures { λ r. ⌜ r ≡ rowBy typeRow (toldType read) ⌝ }
 {
     match read {
-        TypeRead::Value(t, next) => given(next, wire::codes::field_type_to_u8(t) as u64),
+        TypeRead::Value(t, next) => given(next, codes::field_type_to_u8(t) as u64),
         TypeRead::Refused(refusal) => refused(refusal),
     }
 }
@@ -183,7 +183,7 @@ pub fn of_field(read: FieldRead) -> Row
             let id = field.id;
             pair(
                 next,
-                wire::codes::field_type_to_u8(t) as u64,
+                codes::field_type_to_u8(t) as u64,
                 sign::bits16(id) as u64,
             )
         }
@@ -200,7 +200,7 @@ pub fn of_list(read: ListRead) -> Row
             let size = list.size;
             pair(
                 next,
-                wire::codes::field_type_to_u8(t) as u64,
+                codes::field_type_to_u8(t) as u64,
                 sign::bits32(size) as u64,
             )
         }
@@ -217,7 +217,7 @@ pub fn of_set(read: SetRead) -> Row
             let size = set.size;
             pair(
                 next,
-                wire::codes::field_type_to_u8(t) as u64,
+                codes::field_type_to_u8(t) as u64,
                 sign::bits32(size) as u64,
             )
         }
@@ -236,8 +236,8 @@ pub fn of_map(read: MapRead) -> Row
             Row {
                 number: 0,
                 place: next.at as u64,
-                a: wire::codes::field_type_to_u8(key) as u64,
-                b: wire::codes::field_type_to_u8(value) as u64,
+                a: codes::field_type_to_u8(key) as u64,
+                b: codes::field_type_to_u8(value) as u64,
                 c: sign::bits32(size) as u64,
                 d: 0,
             }
@@ -260,7 +260,7 @@ pub fn of_message_type(read: MessageTypeRead) -> Row
 {
     match read {
         MessageTypeRead::Value(t, next) => {
-            given(next, wire::codes::message_type_to_u8(t) as u64)
+            given(next, codes::message_type_to_u8(t) as u64)
         }
         MessageTypeRead::Refused(refusal) => refused(refusal),
     }
@@ -279,7 +279,7 @@ pub fn of_message(read: MessageRead) -> Row
                 place: next.at as u64,
                 a: name.start as u64,
                 b: name.end as u64,
-                c: wire::codes::message_type_to_u8(t) as u64,
+                c: codes::message_type_to_u8(t) as u64,
                 d: sign::bits32(sequence) as u64,
             }
         }
@@ -342,7 +342,7 @@ pub fn of_scalar(t: TType, read: ScalarRead) -> Row
         ScalarRead::Value(v, next) => {
             pair(
                 next,
-                wire::codes::field_type_to_u8(t) as u64,
+                codes::field_type_to_u8(t) as u64,
                 scalar_bits(v),
             )
         }

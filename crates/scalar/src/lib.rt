@@ -5,7 +5,7 @@ use number::I8Read;
 use number::I16Read;
 use number::I32Read;
 use number::I64Read;
-use wire::codes::TType;
+use codes::TType;
 use wire::cursor::Cursor;
 use wire::refusal::Kind;
 use wire::refusal::Refusal;

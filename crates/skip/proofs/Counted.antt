@@ -4,8 +4,8 @@ use Prim.Native.Nat.{ℕ, _+_, _≤_}
 use mathlib.Core.Path.{_≡_, sym, _∙_}
 use mathlib.Core.List.{List}
 use native.Mathlib.Omega.{arith}
-use Rattle.wire.specs.Shapes.{shapeOf}
-use Rattle.wire.specs.declared.codes.TType.{TType}
+use Rattle.codes.specs.Shapes.{shapeOf}
+use Rattle.codes.specs.declared.TType.{TType}
 use Rattle.config.specs.declared.configuration.TConfiguration.{TConfiguration}
 use Rattle.tree.specs.Answers.{ended, cut-off}
 use Rattle.tree.proofs.Bounds.{stands-count, cut-count}

@@ -5,8 +5,8 @@ use mathlib.Core.List.{List}
 use lib.ListN.{length}
 use borrow.Author.Tests.{lt-ltb, le-ltb}
 use Rattle.wire.specs.Answer.{Answer, gives, refused, refuseIf}
-use Rattle.wire.specs.Shapes.{shapeOf}
-use Rattle.wire.specs.declared.codes.TType.{TType}
+use Rattle.codes.specs.Shapes.{shapeOf}
+use Rattle.codes.specs.declared.TType.{TType}
 use Rattle.config.specs.declared.configuration.TConfiguration.{TConfiguration}
 use Rattle.tree.specs.Answers.{Outcome, skipEntry, AfterEntry, SkipAnswers}
 

@@ -9,8 +9,8 @@ use native.Mathlib.Omega.{arith}
 use lib.ListN.{length}
 use Rattle.wire.specs.Answer.{Answer, refused}
 use Rattle.wire.specs.Refusals.{kindNumber}
-use Rattle.wire.specs.Shapes.{shapeOf}
-use Rattle.wire.specs.declared.codes.TType.{TType}
+use Rattle.codes.specs.Shapes.{shapeOf}
+use Rattle.codes.specs.declared.TType.{TType}
 use Rattle.wire.specs.declared.refusal.Refusal.{Refusal}
 use Rattle.wire.proofs.Refusals.{refusalOf, told-back}
 use Rattle.config.specs.declared.configuration.TConfiguration.{TConfiguration}

@@ -6,7 +6,7 @@ use lib.IntN.{ℤ, natAbs}
 use mir.Syntax.{w32}
 use mir.Val.{ofZ}
 use Rattle.wire.specs.Answer.{gives}
-use Rattle.wire.specs.Codes.{leastSize}
+use Rattle.codes.specs.Codes.{leastSize}
 use Rattle.wire.proofs.Answers.{passed, went}
 use Rattle.config.specs.declared.configuration.TConfiguration.{TConfiguration}
 use Rattle.text.specs.Texts.{sizeAt}

@@ -4,8 +4,8 @@ use mathlib.Core.Path.{_≡_}
 use mathlib.Core.Logic.{_⊎_}
 use mathlib.Core.List.{List}
 use Rattle.wire.specs.Answer.{gives, within}
-use Rattle.wire.specs.declared.shape.Shape.{Shape}
-use Rattle.wire.specs.declared.shape.Shape.the-variants as Sh
+use Rattle.codes.specs.declared.shape.Shape.{Shape}
+use Rattle.codes.specs.declared.shape.Shape.the-variants as Sh
 
 -- all of them: they have a fixed width, depth is left for each, and they lie within
 pub record Together (s : List ℕ) (first : ℕ) (sh : Shape) (len depth n end : ℕ) : Type 0 where

@@ -3,7 +3,7 @@ use Prim.Native.Nat.{ℕ}
 use mathlib.Core.Path.{_≡_}
 use mathlib.Core.List.{List}
 use Rattle.wire.specs.Refusals.{kindNumber}
-use Rattle.wire.specs.declared.codes.TType.{TType}
+use Rattle.codes.specs.declared.TType.{TType}
 use Rattle.wire.specs.declared.refusal.Kind.{Kind}
 use Rattle.config.specs.declared.configuration.TConfiguration.{TConfiguration}
 use Rattle.tree.specs.Answers.{Outcome, ended, cut-off, SkipAnswers}

@@ -7,17 +7,17 @@ use read::container::MapRead;
 use read::field::FieldRead;
 use read::structs::DepthRead;
 use text::Body;
-use wire::codes::TType;
+use codes::TType;
 use wire::cursor::Cursor;
 use wire::cursor::Moved;
 use wire::refusal::Kind;
 use wire::refusal::Refusal;
-use wire::shape::Shape;
+use codes::shape::Shape;
 ghost use mathlib.Core.Path.{_≡_};
 ghost use Prim.Native.Nat.{_<_};
 ghost use Rattle.wire.specs.Answer.{judged, within};
 ghost use Rattle.wire.specs.Refusals.{kindNumber};
-ghost use Rattle.wire.specs.Shapes.{shapeOf};
+ghost use Rattle.codes.specs.Shapes.{shapeOf};
 ghost use Rattle.text.specs.Texts.{bytesAt};
 ghost use Rattle.tree.specs.Answers.{leafOutcome, Answers, cut-off};
 ghost use Rattle.skip.specs.Told.{toldWalked};
@@ -74,7 +74,7 @@ fn skip_run(bytes: &[u8], first: usize, element_type: TType, size: u32, depth: u
     if depth < 1 {
         return none;
     }
-    match wire::shape::shape_of(element_type) {
+    match codes::shape::shape_of(element_type) {
         Shape::Fixed(width) => {
             let elements = size as usize;
             let cursor = Cursor { at: first };
@@ -104,7 +104,7 @@ pub(crate) fn skip_value(
     if depth == 0 {
         return refused(Kind::SkipDepth, start);
     }
-    match wire::shape::shape_of(field_type) {
+    match codes::shape::shape_of(field_type) {
         Shape::Fixed(width) => skip_fixed(bytes, cursor, width),
         Shape::Text => skip_text(bytes, cursor, config),
         Shape::Fields => skip_struct(bytes, start, depth, struct_depth, config),

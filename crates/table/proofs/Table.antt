@@ -7,11 +7,11 @@ use native.Mathlib.Omega.{arith}
 use borrow.Author.Needs.{needs}
 use Rattle.wire.specs.Answer.{Answer, gives, refuseIf, andThen, stayAt, within, itemAt}
 use Rattle.wire.specs.Writes.{laid, writeAt}
-use Rattle.wire.specs.declared.shape.Shape.the-variants as Sh
-use Rattle.wire.proofs.Tables.{Each, entry}
-use Rattle.wire.specs.declared.codes.TType.{TType}
-use Rattle.wire.specs.declared.codes.TType.the-variants as T
-use Rattle.wire.specs.declared.codes.TMessageType.the-variants as M
+use Rattle.codes.specs.declared.shape.Shape.the-variants as Sh
+use Rattle.codes.proofs.Tables.{Each, entry}
+use Rattle.codes.specs.declared.TType.{TType}
+use Rattle.codes.specs.declared.TType.the-variants as T
+use Rattle.codes.specs.declared.TMessageType.the-variants as M
 use Rattle.config.specs.Limits.{defaultLimits}
 use Rattle.number.specs.BigEndian.{big, bytesOf}
 use Rattle.number.specs.Reads.{numberAt}

@@ -6,9 +6,9 @@ use mathlib.Core.List.{List, [], _∷_}
 use lib.IntN.{pos}
 use Rattle.wire.specs.Answer.{Answer, gives, refused}
 use Rattle.wire.specs.Writes.{writeAt}
-use Rattle.wire.specs.declared.codes.TType.{TType}
-use Rattle.wire.specs.declared.codes.TType.the-variants as T
-use Rattle.wire.specs.declared.codes.TMessageType.the-variants as M
+use Rattle.codes.specs.declared.TType.{TType}
+use Rattle.codes.specs.declared.TType.the-variants as T
+use Rattle.codes.specs.declared.TMessageType.the-variants as M
 use Rattle.config.specs.Limits.{defaultLimits}
 use Rattle.text.specs.Texts.{span, partOf}
 use Rattle.message.specs.Messages.{message, messageAt, nameOf}

@@ -5,8 +5,8 @@ use mathlib.Core.Path.{_≡_}
 use mathlib.Core.List.{List}
 use lib.ListN.{length, length-append}
 use native.Mathlib.Omega.{arith}
-use Rattle.wire.specs.Shapes.{shapeOf}
-use Rattle.wire.specs.declared.shape.Shape.{Shape}
+use Rattle.codes.specs.Shapes.{shapeOf}
+use Rattle.codes.specs.declared.shape.Shape.{Shape}
 use Rattle.config.specs.declared.configuration.TConfiguration.{TConfiguration}
 use Rattle.number.proofs.Widths.{length-bytesOf}
 use Rattle.wire.specs.Answer.{refused}

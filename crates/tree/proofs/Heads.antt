@@ -15,12 +15,12 @@ use native.Mathlib.Decide.{decLt}
 use native.Mathlib.Omega.{arith}
 use borrow.Author.Tests.{le-ltb, ltb-false, eqb-true, eqb-false}
 use Rattle.wire.specs.Answer.{Answer, gives, refused, andThen, within, itemAt}
-use Rattle.wire.specs.Codes.{typeByte, typeOf, isStop, leastSize}
-use Rattle.wire.specs.declared.codes.TType.{TType}
-use Rattle.wire.specs.declared.codes.Typed.{Typed}
-use Rattle.wire.specs.declared.codes.Typed.the-variants as Type-of
+use Rattle.codes.specs.Codes.{typeByte, typeOf, isStop, leastSize}
+use Rattle.codes.specs.declared.TType.{TType}
+use Rattle.codes.specs.declared.Typed.{Typed}
+use Rattle.codes.specs.declared.Typed.the-variants as Type-of
 use Rattle.wire.proofs.Answers.{passed, went}
-use Rattle.wire.proofs.RoundTrips.{type-read}
+use Rattle.codes.proofs.RoundTrips.{type-read}
 use Rattle.wire.proofs.Within.{inside}
 use Rattle.number.specs.BigEndian.{big, bytesOf}
 use Rattle.number.specs.Reads.{numberAt, byteAt, i16At, i32At}
@@ -30,7 +30,7 @@ use Rattle.config.specs.declared.configuration.TConfiguration.{TConfiguration}
 use Rattle.text.specs.Texts.{sizeAt, sizedAt, bytesAt, limitedAt}
 use Rattle.text.proofs.Texts.{limited-is}
 use Rattle.text.specs.declared.Span.{Span}
-use Rattle.wire.specs.declared.codes.TType.the-variants as T
+use Rattle.codes.specs.declared.TType.the-variants as T
 use Rattle.read.specs.declared.container.TListIdentifier.{TListIdentifier}
 use Rattle.read.specs.declared.container.TMapIdentifier.{TMapIdentifier}
 use Rattle.read.specs.declared.field.TFieldIdentifier.{TFieldIdentifier}

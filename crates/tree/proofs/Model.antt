@@ -8,11 +8,11 @@ use lib.IntN.{natAbs}
 use lib.ListN.{length}
 use native.Mathlib.Omega.{arith}
 use Rattle.wire.specs.Answer.{Answer, gives, refused, judged, within}
-use Rattle.wire.specs.Codes.{isStop}
-use Rattle.wire.specs.Shapes.{shapeOf}
-use Rattle.wire.specs.declared.codes.TType.{TType}
-use Rattle.wire.specs.declared.shape.Shape.{Shape}
-use Rattle.wire.specs.declared.shape.Shape.the-variants as Sh
+use Rattle.codes.specs.Codes.{isStop}
+use Rattle.codes.specs.Shapes.{shapeOf}
+use Rattle.codes.specs.declared.TType.{TType}
+use Rattle.codes.specs.declared.shape.Shape.{Shape}
+use Rattle.codes.specs.declared.shape.Shape.the-variants as Sh
 use Rattle.config.specs.declared.configuration.TConfiguration.{TConfiguration}
 use Rattle.text.specs.Texts.{bytesAt}
 use Rattle.read.specs.Headers.{fieldAt, listAt, mapAt, structBeginAt}

@@ -5,10 +5,10 @@ use mathlib.Core.Path.{refl, ap}
 use mathlib.Core.List.{List, _++_}
 use lib.ListN.{length}
 use native.Mathlib.Omega.{arith}
-use Rattle.wire.specs.Codes.{leastSize}
-use Rattle.wire.specs.Shapes.{shapeOf}
-use Rattle.wire.specs.declared.codes.TType.{TType}
-use Rattle.wire.specs.declared.shape.Shape.{Shape}
+use Rattle.codes.specs.Codes.{leastSize}
+use Rattle.codes.specs.Shapes.{shapeOf}
+use Rattle.codes.specs.declared.TType.{TType}
+use Rattle.codes.specs.declared.shape.Shape.{Shape}
 use Rattle.config.specs.Limits.{Roomier}
 use Rattle.config.specs.declared.configuration.TConfiguration.{TConfiguration}
 use Rattle.config.proofs.Room.{still-within, still-below}

@@ -10,12 +10,12 @@ use mir.Val.{toZ}
 use native.Mathlib.Nat.{le-trans}
 use native.Mathlib.Omega.{arith}
 use Rattle.wire.specs.Answer.{Answer, gives, refused, refuseIf, andThen, judged, within, itemAt}
-use Rattle.wire.specs.Codes.{typeOf, isStop, leastSize}
-use Rattle.wire.specs.declared.codes.TType.{TType}
-use Rattle.wire.specs.declared.codes.Typed.{Typed}
-use Rattle.wire.specs.declared.codes.Typed.the-variants as Type-of
-use Rattle.wire.specs.declared.shape.Shape.{Shape}
-use Rattle.wire.specs.declared.shape.Shape.the-variants as Sh
+use Rattle.codes.specs.Codes.{typeOf, isStop, leastSize}
+use Rattle.codes.specs.declared.TType.{TType}
+use Rattle.codes.specs.declared.Typed.{Typed}
+use Rattle.codes.specs.declared.Typed.the-variants as Type-of
+use Rattle.codes.specs.declared.shape.Shape.{Shape}
+use Rattle.codes.specs.declared.shape.Shape.the-variants as Sh
 use Rattle.wire.proofs.Answers.{passed, went}
 use Rattle.number.specs.Reads.{numberAt, byteAt, i16At, i32At}
 use Rattle.config.specs.declared.limit.Limit.{Limit}

@@ -12,9 +12,9 @@ use native.Mathlib.Nat.{mod-eq-of-lt}
 use native.Mathlib.Omega.{arith}
 use borrow.Author.Tests.{le-ltb}
 use Rattle.wire.specs.Answer.{gives, andThen, within, itemAt}
-use Rattle.wire.specs.Codes.{typeByte, isStop, leastSize}
-use Rattle.wire.specs.declared.codes.TType.{TType}
-use Rattle.wire.specs.declared.codes.TType.the-variants as T
+use Rattle.codes.specs.Codes.{typeByte, isStop, leastSize}
+use Rattle.codes.specs.declared.TType.{TType}
+use Rattle.codes.specs.declared.TType.the-variants as T
 use Rattle.wire.proofs.Within.{whole}
 use Rattle.number.specs.BigEndian.{big, bytesOf}
 use Rattle.number.specs.Reads.{numberAt, byteAt, i32At}

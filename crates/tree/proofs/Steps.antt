@@ -9,11 +9,11 @@ use lib.IntN.{ℤ, natAbs}
 use native.Mathlib.Omega.{arith}
 use borrow.Author.Tests.{ne-eqb, eq-eqb}
 use Rattle.wire.specs.Answer.{gives, refused, refuseIf, within}
-use Rattle.wire.specs.Codes.{typeByte, isStop, leastSize}
-use Rattle.wire.specs.Shapes.{shapeOf}
-use Rattle.wire.specs.declared.codes.TType.{TType}
-use Rattle.wire.specs.declared.shape.Shape.{Shape}
-use Rattle.wire.specs.declared.shape.Shape.the-variants as Sh
+use Rattle.codes.specs.Codes.{typeByte, isStop, leastSize}
+use Rattle.codes.specs.Shapes.{shapeOf}
+use Rattle.codes.specs.declared.TType.{TType}
+use Rattle.codes.specs.declared.shape.Shape.{Shape}
+use Rattle.codes.specs.declared.shape.Shape.the-variants as Sh
 use Rattle.wire.proofs.Within.{inside}
 use Rattle.config.specs.declared.configuration.TConfiguration.{TConfiguration}
 use Rattle.number.specs.BigEndian.{bytesOf}

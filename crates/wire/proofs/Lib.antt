@@ -1,8 +1,5 @@
 pub mod Answers
-pub mod Least
 pub mod Refusals
-pub mod RoundTrips
-pub mod Tables
 pub mod Unique
 pub mod Within
 pub mod Writes

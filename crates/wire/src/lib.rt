@@ -1,5 +1,3 @@
-// What every layer above shares: the codes of types and messages, the refusal, and the cursor.
-pub mod codes;
+// What every layer above shares: the refusal, the cursor, and what an answer is.
 pub mod cursor;
 pub mod refusal;
-pub mod shape;

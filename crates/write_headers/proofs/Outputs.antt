@@ -10,10 +10,10 @@ use lib.ListN.{length}
 use mir.Syntax.{w16, w32}
 use mir.Val.{ofZ}
 use Rattle.wire.specs.Answer.{Answer, gives, refused, refuseIf, andThen}
-use Rattle.wire.specs.Codes.{typeByte, isStop}
+use Rattle.codes.specs.Codes.{typeByte, isStop}
 use Rattle.wire.specs.Refusals.{toldMoved}
 use Rattle.wire.specs.Writes.{writeAt, left, Wrote}
-use Rattle.wire.specs.declared.codes.TType.{TType}
+use Rattle.codes.specs.declared.TType.{TType}
 use Rattle.wire.specs.declared.cursor.Moved.{Moved}
 use Rattle.number.specs.BigEndian.{bytesOf}
 use Rattle.read.specs.Layouts.{fieldLayout, mapLayout}

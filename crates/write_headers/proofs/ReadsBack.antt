@@ -8,11 +8,11 @@ use lib.IntN.{ℤ, pos}
 use mir.Syntax.{w16, w32}
 use mir.Val.{SFits, ofZ}
 use Rattle.wire.specs.Answer.{gives}
-use Rattle.wire.specs.Codes.{typeByte, isStop, asRead, leastSize}
+use Rattle.codes.specs.Codes.{typeByte, isStop, asRead, leastSize}
 use Rattle.wire.specs.Writes.{writeAt, putAt}
-use Rattle.wire.specs.declared.codes.TType.{TType}
-use Rattle.wire.specs.declared.codes.TType.the-variants as T
-use Rattle.wire.proofs.RoundTrips.{type-written, type-read}
+use Rattle.codes.specs.declared.TType.{TType}
+use Rattle.codes.specs.declared.TType.the-variants as T
+use Rattle.codes.proofs.RoundTrips.{type-written, type-read}
 use Rattle.number.specs.BigEndian.{bytesOf}
 use Rattle.number.proofs.Widths.{written, signed-written, length-bytesOf}
 use Rattle.config.specs.declared.configuration.TConfiguration.{TConfiguration}

@@ -6,8 +6,8 @@ use lib.IntN.{ℤ}
 use mir.Syntax.{w16, w32}
 use mir.Val.{ofZ}
 use Rattle.wire.specs.Answer.{Answer, gives, refused, refuseIf}
-use Rattle.wire.specs.Codes.{typeByte, isStop}
-use Rattle.wire.specs.declared.codes.TType.{TType}
+use Rattle.codes.specs.Codes.{typeByte, isStop}
+use Rattle.codes.specs.declared.TType.{TType}
 use Rattle.number.specs.BigEndian.{bytesOf}
 use Rattle.read.specs.Layouts.{fieldLayout, mapLayout}
 use Rattle.write_headers.specs.declared.field.FieldId.{FieldId}

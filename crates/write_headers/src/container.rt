@@ -1,7 +1,7 @@
 // Headers of lists, sets and maps. Sizes are written as they are given, negative ones too.
 use read::container::TListIdentifier;
 use read::container::TSetIdentifier;
-use wire::codes::TType;
+use codes::TType;
 use wire::cursor::Cursor;
 use wire::cursor::Moved;
 ghost use mathlib.Core.Path.{_≡_};
@@ -25,7 +25,7 @@ fn put_elements(out: &mut [u8], element_type: TType, size: u32)
     requires { ⌜ 5 ≤ length (now out) ⌝ }
     ensures { λ _. ⌜ now (out .exit) ≡ inFront (listLayout «element_type» size) (now (out .entry)) ⌝ }
 {
-    number::put::put8(out, wire::codes::field_type_to_u8(element_type));
+    number::put::put8(out, codes::field_type_to_u8(element_type));
     number::put::put32(&mut out[1..], size);
 }
 
@@ -75,8 +75,8 @@ fn put_pairs(out: &mut [u8], key_type: TType, value_type: TType, size: u32)
     requires { ⌜ 6 ≤ length (now out) ⌝ }
     ensures { λ _. ⌜ now (out .exit) ≡ inFront (mapLayout «key_type» «value_type» size) (now (out .entry)) ⌝ }
 {
-    number::put::put8(out, wire::codes::field_type_to_u8(key_type));
-    number::put::put8(&mut out[1..], wire::codes::field_type_to_u8(value_type));
+    number::put::put8(out, codes::field_type_to_u8(key_type));
+    number::put::put8(&mut out[1..], codes::field_type_to_u8(value_type));
     number::put::put32(&mut out[2..], size);
 }
 

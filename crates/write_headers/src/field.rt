@@ -1,5 +1,5 @@
 // A field's header, and the stop that ends a struct's fields.
-use wire::codes::TType;
+use codes::TType;
 use wire::cursor::Cursor;
 use wire::cursor::Moved;
 use wire::refusal::Kind;
@@ -10,7 +10,7 @@ ghost use Prim.Native.Nat.{_≤_};
 ghost use lib.Dec.{ltb};
 ghost use lib.ListN.{length};
 ghost use Rattle.wire.specs.Answer.{stayAt, refuseIf, refused};
-ghost use Rattle.wire.specs.Codes.{typeByte};
+ghost use Rattle.codes.specs.Codes.{typeByte};
 ghost use Rattle.wire.specs.Refusals.{toldMoved};
 ghost use Rattle.wire.specs.Writes.{Wrote, putAt, writeAt, inFront};
 ghost use Rattle.number.specs.BigEndian.{bytesOf};
@@ -44,7 +44,7 @@ fn put_with_id(out: &mut [u8], field_type: TType, id: u16)
     requires { ⌜ 3 ≤ length (now out) ⌝ }
     ensures { λ _. ⌜ now (out .exit) ≡ inFront (fieldLayout «field_type» (bytesOf 2 id)) (now (out .entry)) ⌝ }
 {
-    number::put::put8(out, wire::codes::field_type_to_u8(field_type));
+    number::put::put8(out, codes::field_type_to_u8(field_type));
     number::put::put16(&mut out[1..], id);
 }
 
@@ -68,7 +68,7 @@ pub fn write_field_begin(out: &mut [u8], cursor: Cursor, field_type: TType, id: 
         FieldId::Of(id) => { write_with_id(out, cursor, field_type, sign::bits16(id)) }
         FieldId::Absent => {
             if field_type.is_stop() {
-                let stop = wire::codes::field_type_to_u8(field_type);
+                let stop = codes::field_type_to_u8(field_type);
                 return write::scalar::write_byte(out, cursor, stop);
             }
             missing(out.len(), cursor)
@@ -85,5 +85,5 @@ pub fn write_field_end(out: &[u8], cursor: Cursor) -> Moved
 pub fn write_field_stop(out: &mut [u8], cursor: Cursor) -> Moved
     ensures { λ r. ⌜ Wrote r (now (out .exit)) (now (out .entry)) (putAt (typeByte TType.Stop ∷ []) (now (out .entry)) (cursor .at)) ⌝ }
 {
-    write::scalar::write_byte(out, cursor, wire::codes::field_type_to_u8(TType::Stop))
+    write::scalar::write_byte(out, cursor, codes::field_type_to_u8(TType::Stop))
 }

@@ -6,10 +6,10 @@ use mathlib.Core.List.{List, [], _∷_, _++_}
 use native.Mathlib.Omega.{arith}
 use lib.ListN.{length, take, drop, length-append}
 use borrow.Rule.Slice.PartMut.{putMid}
-use Rattle.wire.specs.Codes.{messageByte}
+use Rattle.codes.specs.Codes.{messageByte}
 use Rattle.wire.specs.Writes.{inFront}
-use Rattle.wire.specs.declared.codes.TMessageType.{TMessageType}
-use Rattle.wire.specs.declared.codes.TMessageType.the-variants as M
+use Rattle.codes.specs.declared.TMessageType.{TMessageType}
+use Rattle.codes.specs.declared.TMessageType.the-variants as M
 use Rattle.wire.proofs.Writes.{behind}
 use Rattle.number.specs.BigEndian.{bytesOf}
 use Rattle.number.proofs.Widths.{length-bytesOf}

@@ -9,10 +9,10 @@ use lib.ListN.{length, getD}
 use mir.Syntax.{w32}
 use mir.Val.{SFits, toZ, ofZ}
 use Rattle.wire.specs.Answer.{Answer, gives}
-use Rattle.wire.specs.Codes.{messageByte}
+use Rattle.codes.specs.Codes.{messageByte}
 use Rattle.wire.specs.Writes.{writeAt}
-use Rattle.wire.specs.declared.codes.TMessageType.{TMessageType}
-use Rattle.wire.proofs.RoundTrips.{message-written}
+use Rattle.codes.specs.declared.TMessageType.{TMessageType}
+use Rattle.codes.proofs.RoundTrips.{message-written}
 use Rattle.number.specs.BigEndian.{big, bytesOf}
 use Rattle.number.specs.Reads.{byteAt, i32At}
 use Rattle.number.proofs.Widths.{signed-written, length-bytesOf}

@@ -1,5 +1,5 @@
 // A message's header: with a version (strict), or in the older layout that starts with the name.
-use wire::codes::TMessageType;
+use codes::TMessageType;
 use wire::cursor::Cursor;
 use wire::cursor::Moved;
 ghost use mathlib.Core.Bool.{true, false};
@@ -19,7 +19,7 @@ fn put_versioned(out: &mut [u8], name: &[u8], message_type: TMessageType, sequen
     requires { ⌜ 12 + length (now name) ≤ length (now out) ⌝ }
     ensures { λ _. ⌜ now (out .exit) ≡ inFront (messageLayout true (now (name .entry)) «message_type» sequence) (now (out .entry)) ⌝ }
 {
-    let kind = wire::codes::message_type_to_u8(message_type);
+    let kind = codes::message_type_to_u8(message_type);
     number::put::put32(out, 0x8001_0000 + kind as u32);
     text::put::put_sized(&mut out[4..], name);
     number::put::put32(&mut out[8 + name.len()..], sequence);
@@ -31,7 +31,7 @@ fn put_unversioned(out: &mut [u8], name: &[u8], message_type: TMessageType, sequ
     ensures { λ _. ⌜ now (out .exit) ≡ inFront (messageLayout false (now (name .entry)) «message_type» sequence) (now (out .entry)) ⌝ }
 {
     text::put::put_sized(out, name);
-    let kind = wire::codes::message_type_to_u8(message_type);
+    let kind = codes::message_type_to_u8(message_type);
     number::put::put8(&mut out[4 + name.len()..], kind);
     number::put::put32(&mut out[5 + name.len()..], sequence);
 }

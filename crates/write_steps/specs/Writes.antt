@@ -10,14 +10,14 @@ use lib.Ieee.{binary64, ofBits, toBits}
 use mir.Syntax.{w8, w16, w32, w64}
 use mir.Val.{toZ, ofZ}
 use Rattle.wire.specs.Answer.{Answer, judged, stayAt}
-use Rattle.wire.specs.Codes.{typeByte, messageOf}
+use Rattle.codes.specs.Codes.{typeByte, messageOf}
 use Rattle.wire.specs.Writes.{putAt, writeAt, left}
-use Rattle.wire.specs.declared.codes.TType.{TType}
-use Rattle.wire.specs.declared.codes.TType.the-variants as T
-use Rattle.wire.specs.declared.codes.Typed.{Typed}
-use Rattle.wire.specs.declared.codes.Typed.the-variants as Type-of
-use Rattle.wire.specs.declared.codes.Messaged.{Messaged}
-use Rattle.wire.specs.declared.codes.Messaged.the-variants as Message-of
+use Rattle.codes.specs.declared.TType.{TType}
+use Rattle.codes.specs.declared.TType.the-variants as T
+use Rattle.codes.specs.declared.Typed.{Typed}
+use Rattle.codes.specs.declared.Typed.the-variants as Type-of
+use Rattle.codes.specs.declared.Messaged.{Messaged}
+use Rattle.codes.specs.declared.Messaged.the-variants as Message-of
 use Rattle.number.specs.BigEndian.{bytesOf}
 use Rattle.text.specs.Texts.{sizedLayout}
 use Rattle.read.specs.Headers.{structBeginAt, structEndAt}

@@ -9,9 +9,9 @@ use read::container::TListIdentifier;
 use read::container::TSetIdentifier;
 use rows::Row;
 use rows::Stepped;
-use wire::codes::Messaged;
-use wire::codes::TType;
-use wire::codes::Typed;
+use codes::Messaged;
+use codes::TType;
+use codes::Typed;
 use wire::cursor::Cursor;
 use wire::cursor::Moved;
 use write_headers::container::MapType;
@@ -206,7 +206,7 @@ fn message_by_kind(out: &mut [u8], at: Cursor, call: Writing, name: &[u8]) -> St
 {
     let strict = call.strict;
     let sequence = low_i32(call.number);
-    match wire::codes::message_type_from_u8(call.kind) {
+    match codes::message_type_from_u8(call.kind) {
         Messaged::Known(t) => {
             let moved = write_message::write_message_begin(
                 out,

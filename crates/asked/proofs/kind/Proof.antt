@@ -2,9 +2,9 @@
 use borrow.Author.Needs.{needs}
 use mathlib.Core.Path.{sym}
 use lib.ListN.{List·getD-eq-default}
-use Rattle.wire.proofs.Tables.{getD-within}
+use Rattle.codes.proofs.Tables.{getD-within}
 use Rattle.asked.specs.Asked.{kinds}
-use Rattle.wire.specs.declared.codes.Typed.the-variants.{Unknown}
+use Rattle.codes.specs.declared.Typed.the-variants.{Unknown}
 use Rattle.asked.proofs.kind.Statement.{statement}
 use Rattle.asked.proofs.kind.Tie as tie
 

@@ -2,7 +2,7 @@
 use borrow.Author.Needs.{needs}
 use mathlib.Core.Path.{sym}
 use lib.ListN.{List·getD-eq-default}
-use Rattle.wire.proofs.Tables.{getD-within}
+use Rattle.codes.proofs.Tables.{getD-within}
 use Rattle.asked.specs.Asked.{writes}
 use Rattle.asked.specs.declared.WriteStep.the-variants.{Unknown}
 use Rattle.asked.proofs.write_step.Statement.{statement}

@@ -1,7 +1,7 @@
 -- Assumes nothing.
 use borrow.Author.Needs.{needs}
 use mathlib.Core.Path.{sym, _∙_}
-use Rattle.wire.specs.declared.codes.Typed.the-variants as Type-of
+use Rattle.codes.specs.declared.Typed.the-variants as Type-of
 use Rattle.skip.specs.Skips.{toldSkipped}
 use Rattle.host.proofs.Rows.{by-type}
 use Rattle.host.proofs.skip_by_byte.Statement.{statement}

@@ -3,7 +3,7 @@ use borrow.Author.Needs.{needs}
 use native.Mathlib.Omega.{arith}
 use lib.Dec.{lit≤}
 use Rattle.wire.specs.Answer.{gives, refused}
-use Rattle.wire.specs.declared.codes.TType.the-variants as T
+use Rattle.codes.specs.declared.TType.the-variants as T
 use Rattle.config.specs.Limits.{defaultLimits}
 use Rattle.skip.specs.Skips.{toldSkipped}
 use Rattle.skip.proofs.Entry.{entry-beyond, entry-depth, entered}

@@ -40,13 +40,13 @@ use denote.Exit.{yes}
 use denote.Triple.Clauses.{ensured, lasts}
 use Rattle.config.specs.Limits.{defaultLimits}
 use Rattle.skip.specs.Skips.{SkipSays}
-use Rattle.wire.specs.declared.codes.TType.{TType}
+use Rattle.codes.specs.declared.TType.{TType}
 use Rattle.reader.specs.declared.Reader.{Reader}
 use Rattle.skip.specs.declared.till_depth.Skipped.{Skipped}
 use Rattle.reader.proofs.Reader as T
 use Rattle.reader.proofs.Reader.Laws as T′
-use Rattle.wire.proofs.codes.TType as K
-use Rattle.wire.proofs.codes.TType.Laws as K′
+use Rattle.codes.proofs.TType as K
+use Rattle.codes.proofs.TType.Laws as K′
 use Rattle.skip.proofs.till_depth.Skipped as S
 use Rattle.skip.proofs.till_depth.Skipped.Laws as S′
 use Rattle.reader.proofs.new as new

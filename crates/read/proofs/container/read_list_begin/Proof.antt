@@ -4,7 +4,7 @@ use mathlib.Core.Path.{_≡_}
 use mir.Syntax.{w32}
 use mir.Val.{toZ, ofZ}
 use native.Mathlib.Omega.{arith}
-use Rattle.wire.proofs.Least.{least-small}
+use Rattle.codes.proofs.Least.{least-small}
 use Rattle.number.specs.Told.{toldI32}
 use Rattle.read.specs.Told.{toldType}
 use Rattle.wire.proofs.Answers.{told-as}

@@ -15,11 +15,11 @@ use Rattle.tree.proofs.Steps as steps
 use Rattle.tree.proofs.Bounds.{stands-count, cut-small}
 use Rattle.skip.proofs.Runs.{after-run, run-upto}
 use Rattle.skip.proofs.Sizes.{list-bits, map-bits}
-use Rattle.wire.specs.Shapes.{shapeOf}
+use Rattle.codes.specs.Shapes.{shapeOf}
 use Rattle.wire.specs.Answer.{judged}
 use Rattle.tree.proofs.Parts.{part-length}
 use Rattle.tree.proofs.Heads.{field-is, struct-is}
-use Rattle.wire.specs.declared.shape.Shape.the-variants as Sh
+use Rattle.codes.specs.declared.shape.Shape.the-variants as Sh
 use Rattle.skip.proofs.Leaves.{fixed-width, fixed-answers, text-answers, unfit-answers, deep-answers, shape-answers}
 use borrow.Fn.Kinds.{In}
 use borrow.Fn.PlainCycle.{Measures, is, falls, and}
@@ -44,8 +44,8 @@ use Rattle.skip.proofs.value.refused.Reads as refused-reads
 use Rattle.skip.proofs.value.skip_fixed.Reads as skip-fixed-reads
 use Rattle.skip.proofs.value.skip_run.Reads as skip-run-reads
 use Rattle.skip.proofs.value.skip_text.Reads as skip-text-reads
-use Rattle.wire.proofs.codes.TType.is_stop.Reads as is-stop-reads
-use Rattle.wire.proofs.shape.shape_of.Reads as shape-of-reads
+use Rattle.codes.proofs.TType.is_stop.Reads as is-stop-reads
+use Rattle.codes.proofs.shape.shape_of.Reads as shape-of-reads
 use Rattle.skip.proofs.value.+skip_list+skip_map+skip_struct+skip_value.{statement}
 use Rattle.skip.proofs.value.+skip_list+skip_map+skip_struct+skip_value.Tie.{close}
 

@@ -5,7 +5,7 @@ use native.Mathlib.Omega.{arith}
 use mathlib.Core.List.{[], _∷_}
 use Rattle.number.specs.BigEndian.{bytesOf}
 use Rattle.number.proofs.Widths.{length-bytesOf}
-use Rattle.wire.specs.Codes.{typeByte}
+use Rattle.codes.specs.Codes.{typeByte}
 use Rattle.wire.proofs.Writes.{behind}
 use Rattle.write.proofs.Whole.{byte-first}
 use Rattle.write_headers.proofs.container.put_pairs.Statement.{statement}

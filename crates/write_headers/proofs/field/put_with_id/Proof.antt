@@ -2,7 +2,7 @@
 use borrow.Author.Needs.{needs}
 use Rattle.number.specs.BigEndian.{bytesOf}
 use Rattle.number.proofs.Widths.{length-bytesOf}
-use Rattle.wire.specs.Codes.{typeByte}
+use Rattle.codes.specs.Codes.{typeByte}
 use Rattle.write.proofs.Whole.{byte-first}
 use Rattle.write_headers.proofs.field.put_with_id.Statement.{statement}
 use Rattle.write_headers.proofs.field.put_with_id.Tie as tie

@@ -1,12 +1,12 @@
 -- Assumes nothing.
 use mathlib.Core.Path.{_≡_, refl, sym, ap}
 use mathlib.Core.Bool.{Bool, true, false, true≢false}
-use Rattle.wire.specs.Codes.{messageOf, messages}
-use Rattle.wire.specs.declared.codes.Messaged.{Messaged}
-use Rattle.wire.specs.declared.codes.Messaged.the-variants.{Known, Unknown}
-use Rattle.wire.proofs.Tables.{missed}
-use Rattle.wire.proofs.codes.message_type_from_u8.Statement.{statement}
-use Rattle.wire.proofs.codes.message_type_from_u8.Tie as tie
+use Rattle.codes.specs.Codes.{messageOf, messages}
+use Rattle.codes.specs.declared.Messaged.{Messaged}
+use Rattle.codes.specs.declared.Messaged.the-variants.{Known, Unknown}
+use Rattle.codes.proofs.Tables.{missed}
+use Rattle.codes.proofs.message_type_from_u8.Statement.{statement}
+use Rattle.codes.proofs.message_type_from_u8.Tie as tie
 
 abbrev stands : Messaged → Bool
 stands (Known t) = true

@@ -1,9 +1,9 @@
 -- Least sizes are at least 1, and small enough that a product with a 32-bit size fits. Assumes nothing.
 use Prim.Native.Nat.{_≤_}
 use lib.Dec.{lit≤}
-use Rattle.wire.specs.Codes.{leastSize}
-use Rattle.wire.specs.declared.codes.TType.{TType}
-use Rattle.wire.specs.declared.codes.TType.the-variants as T
+use Rattle.codes.specs.Codes.{leastSize}
+use Rattle.codes.specs.declared.TType.{TType}
+use Rattle.codes.specs.declared.TType.the-variants as T
 
 pub least-small : (t : TType) → leastSize t ≤ 16
 least-small T.Stop = lit≤ tt

@@ -4,14 +4,14 @@ use mathlib.Core.Bool.{Bool}
 use mathlib.Core.List.{List, [], _∷_}
 use lib.Dec.{eqb}
 use lib.ListN.{getD}
-use Rattle.wire.specs.declared.codes.TType.{TType}
-use Rattle.wire.specs.declared.codes.TType.the-variants as T
-use Rattle.wire.specs.declared.codes.TMessageType.{TMessageType}
-use Rattle.wire.specs.declared.codes.TMessageType.the-variants as M
-use Rattle.wire.specs.declared.codes.Typed.{Typed}
-use Rattle.wire.specs.declared.codes.Typed.the-variants as Type-of
-use Rattle.wire.specs.declared.codes.Messaged.{Messaged}
-use Rattle.wire.specs.declared.codes.Messaged.the-variants as Message-of
+use Rattle.codes.specs.declared.TType.{TType}
+use Rattle.codes.specs.declared.TType.the-variants as T
+use Rattle.codes.specs.declared.TMessageType.{TMessageType}
+use Rattle.codes.specs.declared.TMessageType.the-variants as M
+use Rattle.codes.specs.declared.Typed.{Typed}
+use Rattle.codes.specs.declared.Typed.the-variants as Type-of
+use Rattle.codes.specs.declared.Messaged.{Messaged}
+use Rattle.codes.specs.declared.Messaged.the-variants as Message-of
 
 -- the byte that a type is written as
 abbrev pub typeByte : TType → ℕ

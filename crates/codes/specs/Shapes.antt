@@ -1,8 +1,8 @@
 -- How the values of a type lie in the bytes. Stop, Void and Utf7 have none that can be skipped; a set lies as a list does.
-use Rattle.wire.specs.declared.codes.TType.{TType}
-use Rattle.wire.specs.declared.codes.TType.the-variants as T
-use Rattle.wire.specs.declared.shape.Shape.{Shape}
-use Rattle.wire.specs.declared.shape.Shape.the-variants.{Fixed, Text, Fields, Items, Pairs, Unfit}
+use Rattle.codes.specs.declared.TType.{TType}
+use Rattle.codes.specs.declared.TType.the-variants as T
+use Rattle.codes.specs.declared.shape.Shape.{Shape}
+use Rattle.codes.specs.declared.shape.Shape.the-variants.{Fixed, Text, Fields, Items, Pairs, Unfit}
 
 abbrev pub shapeOf : TType → Shape
 shapeOf T.Stop = Unfit

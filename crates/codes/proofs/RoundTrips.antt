@@ -3,16 +3,16 @@ use Prim.Native.Nat.{ℕ}
 use mathlib.Core.Path.{_≡_, refl, subst}
 use native.Mathlib.Nat.{zero-add}
 use borrow.Author.Needs.{needs}
-use Rattle.wire.specs.Codes.{typeByte, typeOf, types, asRead, messageByte, messageOf, messages}
-use Rattle.wire.specs.declared.codes.TType.{TType}
-use Rattle.wire.specs.declared.codes.TType.the-variants as T
-use Rattle.wire.specs.declared.codes.TMessageType.{TMessageType}
-use Rattle.wire.specs.declared.codes.TMessageType.the-variants as M
-use Rattle.wire.specs.declared.codes.Typed.{Typed}
-use Rattle.wire.specs.declared.codes.Typed.the-variants as Type-of
-use Rattle.wire.specs.declared.codes.Messaged.{Messaged}
-use Rattle.wire.specs.declared.codes.Messaged.the-variants as Message-of
-use Rattle.wire.proofs.Tables.{entry}
+use Rattle.codes.specs.Codes.{typeByte, typeOf, types, asRead, messageByte, messageOf, messages}
+use Rattle.codes.specs.declared.TType.{TType}
+use Rattle.codes.specs.declared.TType.the-variants as T
+use Rattle.codes.specs.declared.TMessageType.{TMessageType}
+use Rattle.codes.specs.declared.TMessageType.the-variants as M
+use Rattle.codes.specs.declared.Typed.{Typed}
+use Rattle.codes.specs.declared.Typed.the-variants as Type-of
+use Rattle.codes.specs.declared.Messaged.{Messaged}
+use Rattle.codes.specs.declared.Messaged.the-variants as Message-of
+use Rattle.codes.proofs.Tables.{entry}
 
 -- what the byte of each type is read as: itself, but Utf7 as String
 pub type-written : (t : TType) → typeOf (typeByte t) ≡ Type-of.Known (asRead t)

@@ -1,12 +1,12 @@
 -- Assumes nothing.
 use mathlib.Core.Path.{_≡_, refl, sym, ap}
 use mathlib.Core.Bool.{Bool, true, false, true≢false}
-use Rattle.wire.specs.Codes.{typeOf, types}
-use Rattle.wire.specs.declared.codes.Typed.{Typed}
-use Rattle.wire.specs.declared.codes.Typed.the-variants.{Known, Unknown}
-use Rattle.wire.proofs.Tables.{missed}
-use Rattle.wire.proofs.codes.field_type_from_u8.Statement.{statement}
-use Rattle.wire.proofs.codes.field_type_from_u8.Tie as tie
+use Rattle.codes.specs.Codes.{typeOf, types}
+use Rattle.codes.specs.declared.Typed.{Typed}
+use Rattle.codes.specs.declared.Typed.the-variants.{Known, Unknown}
+use Rattle.codes.proofs.Tables.{missed}
+use Rattle.codes.proofs.field_type_from_u8.Statement.{statement}
+use Rattle.codes.proofs.field_type_from_u8.Tie as tie
 
 abbrev stands : Typed → Bool
 stands (Known t) = true

@@ -1,6 +1,8 @@
 // The codes of types and of message types, and the least bytes that a value of a type takes.
+pub mod shape;
+
 ghost use mathlib.Core.Path.{_≡_};
-ghost use Rattle.wire.specs.Codes.{typeByte, typeOf, isStop, messageByte, messageOf, leastSize};
+ghost use Rattle.codes.specs.Codes.{typeByte, typeOf, isStop, messageByte, messageOf, leastSize};
 
 pub enum TType {
     Stop,

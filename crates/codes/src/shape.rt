@@ -1,7 +1,7 @@
 // How the values of a type lie in the bytes: fifteen types, six shapes.
-use crate::codes::TType;
+use crate::TType;
 ghost use mathlib.Core.Path.{_≡_};
-ghost use Rattle.wire.specs.Shapes.{shapeOf};
+ghost use Rattle.codes.specs.Shapes.{shapeOf};
 
 pub enum Shape {
     // So many bytes: a scalar or a UUID.
