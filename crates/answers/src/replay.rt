@@ -73,7 +73,10 @@ fn same_read(line: &[u8]) -> bool {
         w[14] as usize,
         w[15] as usize,
     );
-    same_row(read_steps::by_number(front(&input, length), small(w[6]), call), &w)
+    same_row(
+        read_steps::by_number(front(&input, length), small(w[6]), call),
+        &w,
+    )
 }
 
 // `w REFUSAL PLACE A B C D STEP STRICT KIND OTHER ABSENT NUMBER STRUCT_DEPTH STRUCTS PLACE LENGTH 0 TEXT WRITTEN`
@@ -116,7 +119,7 @@ fn write_step(w: &[u64; 17], text: &[u8], out: &mut [u8]) -> Stepped {
 
 fn put_at(bytes: &[u8], place: usize, out: &mut [u8]) {
     if place < out.len() {
-        text::put::put_bytes(&mut out[place..], bytes);
+        put::put_bytes(&mut out[place..], bytes);
     }
 }
 

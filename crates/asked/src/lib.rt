@@ -1,8 +1,8 @@
 // What the numbers of a call stand for: steps, types and limits.
-use config::configuration::TConfiguration;
-use config::limit::Limit;
 use codes::TType;
 use codes::Typed;
+use config::configuration::TConfiguration;
+use config::limit::Limit;
 ghost use mathlib.Core.Path.{_≡_};
 ghost use Rattle.asked.specs.Asked.{readStepOf, writeStepOf, kindOf, limitOf, limitsOf};
 

@@ -1,4 +1,5 @@
 // Shows the codec at work: one line for each case, what was asked and what was answered.
+use codes::TType;
 use config::configuration::Built;
 use config::configuration::TConfiguration;
 use config::limit::Limit;
@@ -6,7 +7,6 @@ use framed::FrameRead;
 use message::MessageRead;
 use number::I32Read;
 use skip::till_depth::Skipped;
-use codes::TType;
 use wire::cursor::Cursor;
 use wire::cursor::Moved;
 use wire::refusal::Refusal;

@@ -11,7 +11,7 @@ use Rattle.config.specs.Limits.{above}
 use Rattle.config.specs.declared.limit.Limit.{Limit}
 use Rattle.text.specs.Texts.{bytesIn}
 use Rattle.text.specs.declared.Span.{Span}
-use Rattle.text.proofs.Fronts.{length-sized}
+use Rattle.text.proofs.Layouts.{length-sized}
 use Rattle.tree.proofs.Parts.{part-length}
 use Rattle.wire.proofs.Writes.{put-down}
 use Rattle.write.proofs.Outputs.{short, is-short}

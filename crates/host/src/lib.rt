@@ -1,7 +1,7 @@
 // The desk's call for C and Rust: a skip of one value under the default limits, its answer in a lent record.
+use codes::Typed;
 use config::configuration::TConfiguration;
 use skip::till_depth::Skipped;
-use codes::Typed;
 use wire::cursor::Cursor;
 use wire::refusal::Kind;
 use wire::refusal::Refusal;
@@ -89,9 +89,9 @@ fn fill(kept: &mut [u8], row: Row)
     requires { ⌜ 24 ≤ length (now kept) ⌝ }
     ensures { λ _. ⌜ now (kept .exit) ≡ filled row (now (kept .entry)) ⌝ }
 {
-    number::put::put64(kept, row.number);
-    number::put::put64(&mut kept[8..], row.place);
-    number::put::put64(&mut kept[16..], row.count);
+    put::put64(kept, row.number);
+    put::put64(&mut kept[8..], row.place);
+    put::put64(&mut kept[16..], row.count);
 }
 
 // Returns 15 where the record has fewer than 24 bytes, and else 0 with the record's first 24 bytes set.

@@ -1,11 +1,11 @@
 // A message's header: with a version (strict), or in the older layout that starts with the name.
+use codes::Messaged;
+use codes::TMessageType;
 use config::configuration::TConfiguration;
 use number::ByteRead;
 use number::I32Read;
 use text::Span;
 use text::TextRead;
-use codes::Messaged;
-use codes::TMessageType;
 use wire::cursor::Cursor;
 use wire::cursor::Moved;
 use wire::refusal::Kind;

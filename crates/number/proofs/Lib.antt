@@ -1,3 +1,2 @@
-pub mod Fronts
 pub mod Settled
 pub mod Widths

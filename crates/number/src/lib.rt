@@ -1,6 +1,5 @@
 // Numbers read at a cursor of a lent slice: the value with the moved cursor, or the refusal.
 mod big;
-pub mod put;
 
 use wire::cursor::Cursor;
 use wire::cursor::Moved;

@@ -10,12 +10,12 @@ fn fill(kept: &mut [u8], row: Row)
     requires { ⌜ 48 ≤ length (now kept) ⌝ }
     ensures { λ _. ⌜ now (kept .exit) ≡ filled row (now (kept .entry)) ⌝ }
 {
-    number::put::put64(kept, row.number);
-    number::put::put64(&mut kept[8..], row.place);
-    number::put::put64(&mut kept[16..], row.a);
-    number::put::put64(&mut kept[24..], row.b);
-    number::put::put64(&mut kept[32..], row.c);
-    number::put::put64(&mut kept[40..], row.d);
+    put::put64(kept, row.number);
+    put::put64(&mut kept[8..], row.place);
+    put::put64(&mut kept[16..], row.a);
+    put::put64(&mut kept[24..], row.b);
+    put::put64(&mut kept[32..], row.c);
+    put::put64(&mut kept[40..], row.d);
 }
 
 pub(crate) fn keep(kept: &mut [u8], stepped: Stepped) -> u32

@@ -1,8 +1,8 @@
 // Headers of lists, sets and maps: the types, then the size within its limits.
 use crate::field::TypeRead;
+use codes::TType;
 use config::configuration::TConfiguration;
 use number::I32Read;
-use codes::TType;
 use wire::cursor::Cursor;
 use wire::cursor::Moved;
 use wire::refusal::Kind;

@@ -1,8 +1,8 @@
 // A type byte, and a field's header.
-use number::ByteRead;
-use number::I16Read;
 use codes::TType;
 use codes::Typed;
+use number::ByteRead;
+use number::I16Read;
 use wire::cursor::Cursor;
 use wire::cursor::Moved;
 use wire::refusal::Kind;

@@ -2,10 +2,10 @@
 use asked::Bounded;
 use asked::Plain;
 use asked::ReadStep;
+use codes::Typed;
 use config::configuration::TConfiguration;
 use rows::Row;
 use rows::Stepped;
-use codes::Typed;
 use wire::cursor::Cursor;
 ghost use mathlib.Core.Path.{_≡_};
 ghost use Rattle.asked.specs.Asked.{readStepOf, limitsOf};

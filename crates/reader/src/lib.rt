@@ -1,9 +1,9 @@
 // A reader that keeps a frame's bytes and a place in one record. It is handed over by value: a call answers with the place
 // after what it read, and a new reader is made to stand there.
+use codes::TType;
 use config::configuration::TConfiguration;
 use read::field::FieldRead;
 use skip::till_depth::Skipped;
-use codes::TType;
 use wire::cursor::Cursor;
 ghost use mathlib.Core.Path.{_≡_};
 ghost use Rattle.config.specs.Limits.{defaultLimits};

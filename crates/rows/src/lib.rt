@@ -1,4 +1,5 @@
 // The record's numbers for each kind of answer.
+use codes::TType;
 use config::configuration::Built;
 use framed::FrameRead;
 use message::MessageRead;
@@ -20,7 +21,6 @@ use scalar::Scalar;
 use scalar::ScalarRead;
 use skip::till_depth::Skipped;
 use text::TextRead;
-use codes::TType;
 use wire::cursor::Cursor;
 use wire::cursor::Moved;
 use wire::refusal::Refusal;
@@ -259,9 +259,7 @@ pub fn of_message_type(read: MessageTypeRead) -> Row
     ensures { λ r. ⌜ r ≡ rowBy messageTypeRow (toldMessageType read) ⌝ }
 {
     match read {
-        MessageTypeRead::Value(t, next) => {
-            given(next, codes::message_type_to_u8(t) as u64)
-        }
+        MessageTypeRead::Value(t, next) => { given(next, codes::message_type_to_u8(t) as u64) }
         MessageTypeRead::Refused(refusal) => refused(refusal),
     }
 }
@@ -340,11 +338,7 @@ pub fn of_scalar(t: TType, read: ScalarRead) -> Row
 {
     match read {
         ScalarRead::Value(v, next) => {
-            pair(
-                next,
-                codes::field_type_to_u8(t) as u64,
-                scalar_bits(v),
-            )
+            pair(next, codes::field_type_to_u8(t) as u64, scalar_bits(v))
         }
         ScalarRead::Refused(refusal) => refused(refusal),
     }

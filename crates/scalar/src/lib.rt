@@ -1,11 +1,11 @@
 // A typed scalar read: one case of the answer for each scalar type.
+use codes::TType;
 use number::BoolRead;
 use number::DoubleRead;
 use number::I8Read;
 use number::I16Read;
 use number::I32Read;
 use number::I64Read;
-use codes::TType;
 use wire::cursor::Cursor;
 use wire::refusal::Kind;
 use wire::refusal::Refusal;

@@ -1,5 +1,7 @@
 // One value, whatever its type. A value's skip calls that of a struct, a list or a map, and they call back for each child with the depth
 // less one, so the depth bounds the calls.
+use codes::TType;
+use codes::shape::Shape;
 use config::configuration::TConfiguration;
 use number::I32Read;
 use read::container::ListRead;
@@ -7,12 +9,10 @@ use read::container::MapRead;
 use read::field::FieldRead;
 use read::structs::DepthRead;
 use text::Body;
-use codes::TType;
 use wire::cursor::Cursor;
 use wire::cursor::Moved;
 use wire::refusal::Kind;
 use wire::refusal::Refusal;
-use codes::shape::Shape;
 ghost use mathlib.Core.Path.{_≡_};
 ghost use Prim.Native.Nat.{_<_};
 ghost use Rattle.wire.specs.Answer.{judged, within};
@@ -50,9 +50,7 @@ fn skip_text(bytes: &[u8], cursor: Cursor, config: TConfiguration) -> Walked
 {
     let limit = config.max_string_size;
     match text::read_limited(bytes, cursor, limit, Body::Text) {
-        I32Read::Value(size, body) => {
-            skip_fixed(bytes, body, sign::bits32(size) as usize)
-        }
+        I32Read::Value(size, body) => { skip_fixed(bytes, body, sign::bits32(size) as usize) }
         I32Read::Refused(refusal) => Walked::Refused(refusal, 1),
     }
 }

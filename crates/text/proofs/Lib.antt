@@ -1,3 +1,3 @@
-pub mod Fronts
+pub mod Layouts
 pub mod Settled
 pub mod Texts

@@ -1,6 +1,4 @@
 // A size, then as many bytes: texts, names and frames are read here, and their bytes handed out.
-pub mod put;
-
 use config::configuration::TConfiguration;
 use config::limit::Limit;
 use number::I32Read;

@@ -32,7 +32,7 @@ pub fn write_i16(out: &mut [u8], cursor: Cursor, i: i16) -> Moved
     let at = cursor.at;
     match cursor.room(out.len(), 2) {
         Moved::To(next) => {
-            number::put::put16(&mut out[at..], sign::bits16(i));
+            put::put16(&mut out[at..], sign::bits16(i));
             Moved::To(next)
         }
         Moved::Refused(refusal) => Moved::Refused(refusal),
@@ -45,7 +45,7 @@ pub fn write_i32(out: &mut [u8], cursor: Cursor, i: i32) -> Moved
     let at = cursor.at;
     match cursor.room(out.len(), 4) {
         Moved::To(next) => {
-            number::put::put32(&mut out[at..], sign::bits32(i));
+            put::put32(&mut out[at..], sign::bits32(i));
             Moved::To(next)
         }
         Moved::Refused(refusal) => Moved::Refused(refusal),
@@ -59,7 +59,7 @@ fn write_u64(out: &mut [u8], cursor: Cursor, bits: u64) -> Moved
     let at = cursor.at;
     match cursor.room(out.len(), 8) {
         Moved::To(next) => {
-            number::put::put64(&mut out[at..], bits);
+            put::put64(&mut out[at..], bits);
             Moved::To(next)
         }
         Moved::Refused(refusal) => Moved::Refused(refusal),
@@ -85,7 +85,7 @@ pub fn write_byte(out: &mut [u8], cursor: Cursor, b: u8) -> Moved
     let at = cursor.at;
     match cursor.room(out.len(), 1) {
         Moved::To(next) => {
-            number::put::put8(&mut out[at..], b);
+            put::put8(&mut out[at..], b);
             Moved::To(next)
         }
         Moved::Refused(refusal) => Moved::Refused(refusal),

@@ -29,7 +29,7 @@ pub fn write_bytes(out: &mut [u8], cursor: Cursor, b: &[u8]) -> Moved
     }
     match cursor.room(out.len(), 4 + b.len()) {
         Moved::To(next) => {
-            text::put::put_sized(&mut out[at..], b);
+            put::put_sized(&mut out[at..], b);
             Moved::To(next)
         }
         Moved::Refused(refusal) => Moved::Refused(refusal),
@@ -77,7 +77,7 @@ pub fn write_uuid(out: &mut [u8], cursor: Cursor, uuid: [u8; 16]) -> Moved
     let at = cursor.at;
     match cursor.room(out.len(), 16) {
         Moved::To(next) => {
-            text::put::put_bytes(&mut out[at..], &uuid);
+            put::put_bytes(&mut out[at..], &uuid);
             Moved::To(next)
         }
         Moved::Refused(refusal) => Moved::Refused(refusal),

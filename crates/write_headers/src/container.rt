@@ -1,7 +1,7 @@
 // Headers of lists, sets and maps. Sizes are written as they are given, negative ones too.
+use codes::TType;
 use read::container::TListIdentifier;
 use read::container::TSetIdentifier;
-use codes::TType;
 use wire::cursor::Cursor;
 use wire::cursor::Moved;
 ghost use mathlib.Core.Path.{_≡_};
@@ -25,8 +25,8 @@ fn put_elements(out: &mut [u8], element_type: TType, size: u32)
     requires { ⌜ 5 ≤ length (now out) ⌝ }
     ensures { λ _. ⌜ now (out .exit) ≡ inFront (listLayout «element_type» size) (now (out .entry)) ⌝ }
 {
-    number::put::put8(out, codes::field_type_to_u8(element_type));
-    number::put::put32(&mut out[1..], size);
+    put::put8(out, codes::field_type_to_u8(element_type));
+    put::put32(&mut out[1..], size);
 }
 
 // A list and a set are laid out alike.
@@ -75,9 +75,9 @@ fn put_pairs(out: &mut [u8], key_type: TType, value_type: TType, size: u32)
     requires { ⌜ 6 ≤ length (now out) ⌝ }
     ensures { λ _. ⌜ now (out .exit) ≡ inFront (mapLayout «key_type» «value_type» size) (now (out .entry)) ⌝ }
 {
-    number::put::put8(out, codes::field_type_to_u8(key_type));
-    number::put::put8(&mut out[1..], codes::field_type_to_u8(value_type));
-    number::put::put32(&mut out[2..], size);
+    put::put8(out, codes::field_type_to_u8(key_type));
+    put::put8(&mut out[1..], codes::field_type_to_u8(value_type));
+    put::put32(&mut out[2..], size);
 }
 
 fn write_pairs(
@@ -112,9 +112,7 @@ pub fn write_map_begin(
         MapType::Absent => crate::field::missing(out.len(), cursor),
         MapType::Of(key) => match value_type {
             MapType::Absent => crate::field::missing(out.len(), cursor),
-            MapType::Of(value) => {
-                write_pairs(out, cursor, key, value, sign::bits32(size))
-            }
+            MapType::Of(value) => { write_pairs(out, cursor, key, value, sign::bits32(size)) }
         },
     }
 }

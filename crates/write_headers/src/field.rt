@@ -44,8 +44,8 @@ fn put_with_id(out: &mut [u8], field_type: TType, id: u16)
     requires { ⌜ 3 ≤ length (now out) ⌝ }
     ensures { λ _. ⌜ now (out .exit) ≡ inFront (fieldLayout «field_type» (bytesOf 2 id)) (now (out .entry)) ⌝ }
 {
-    number::put::put8(out, codes::field_type_to_u8(field_type));
-    number::put::put16(&mut out[1..], id);
+    put::put8(out, codes::field_type_to_u8(field_type));
+    put::put16(&mut out[1..], id);
 }
 
 fn write_with_id(out: &mut [u8], cursor: Cursor, field_type: TType, id: u16) -> Moved

@@ -14,7 +14,7 @@ use Rattle.wire.proofs.Writes.{behind}
 use Rattle.number.specs.BigEndian.{bytesOf}
 use Rattle.number.proofs.Widths.{length-bytesOf}
 use Rattle.text.specs.Texts.{sizedLayout}
-use Rattle.text.proofs.Fronts.{length-sized}
+use Rattle.text.proofs.Layouts.{length-sized}
 use Rattle.message.specs.Layouts.{messageLayout}
 
 -- the version and the type are one number of four bytes

@@ -20,9 +20,9 @@ fn put_versioned(out: &mut [u8], name: &[u8], message_type: TMessageType, sequen
     ensures { λ _. ⌜ now (out .exit) ≡ inFront (messageLayout true (now (name .entry)) «message_type» sequence) (now (out .entry)) ⌝ }
 {
     let kind = codes::message_type_to_u8(message_type);
-    number::put::put32(out, 0x8001_0000 + kind as u32);
-    text::put::put_sized(&mut out[4..], name);
-    number::put::put32(&mut out[8 + name.len()..], sequence);
+    put::put32(out, 0x8001_0000 + kind as u32);
+    put::put_sized(&mut out[4..], name);
+    put::put32(&mut out[8 + name.len()..], sequence);
 }
 
 // The older layout: the name, the type, the sequence number.
@@ -30,10 +30,10 @@ fn put_unversioned(out: &mut [u8], name: &[u8], message_type: TMessageType, sequ
     requires { ⌜ 9 + length (now name) ≤ length (now out) ⌝ }
     ensures { λ _. ⌜ now (out .exit) ≡ inFront (messageLayout false (now (name .entry)) «message_type» sequence) (now (out .entry)) ⌝ }
 {
-    text::put::put_sized(out, name);
+    put::put_sized(out, name);
     let kind = codes::message_type_to_u8(message_type);
-    number::put::put8(&mut out[4 + name.len()..], kind);
-    number::put::put32(&mut out[5 + name.len()..], sequence);
+    put::put8(&mut out[4 + name.len()..], kind);
+    put::put32(&mut out[5 + name.len()..], sequence);
 }
 
 fn write_versioned(

@@ -3,15 +3,15 @@ use asked::Headed;
 use asked::Put;
 use asked::Still;
 use asked::WriteStep;
+use codes::Messaged;
+use codes::TType;
+use codes::Typed;
 use config::configuration::TConfiguration;
 use config::limit::Limit;
 use read::container::TListIdentifier;
 use read::container::TSetIdentifier;
 use rows::Row;
 use rows::Stepped;
-use codes::Messaged;
-use codes::TType;
-use codes::Typed;
 use wire::cursor::Cursor;
 use wire::cursor::Moved;
 use write_headers::container::MapType;
@@ -208,14 +208,7 @@ fn message_by_kind(out: &mut [u8], at: Cursor, call: Writing, name: &[u8]) -> St
     let sequence = low_i32(call.number);
     match codes::message_type_from_u8(call.kind) {
         Messaged::Known(t) => {
-            let moved = write_message::write_message_begin(
-                out,
-                at,
-                strict,
-                name,
-                t,
-                sequence,
-            );
+            let moved = write_message::write_message_begin(out, at, strict, name, t, sequence);
             Stepped::Set(rows::of_moved(moved))
         }
         Messaged::Unknown => Stepped::Unknown,

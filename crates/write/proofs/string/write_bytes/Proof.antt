@@ -2,7 +2,7 @@
 use borrow.Author.Needs.{needs}
 use native.Mathlib.Omega.{arith}
 use Rattle.wire.proofs.Writes.{refuses-write, write-beyond, write-fault}
-use Rattle.text.proofs.Fronts.{length-sized}
+use Rattle.text.proofs.Layouts.{length-sized}
 use Rattle.text.specs.Texts.{sizedLayout}
 use Rattle.write.proofs.Outputs.{too-long, short}
 use Rattle.write.proofs.Whole.{unwritten, written}

@@ -1,9 +1,9 @@
 -- Assumes nothing.
 use borrow.Author.Needs.{needs}
 use native.Mathlib.Omega.{arith}
-use Rattle.text.proofs.Fronts.{no-sized, sized}
-use Rattle.text.proofs.put.put_sized.Statement.{statement}
-use Rattle.text.proofs.put.put_sized.Tie as tie
+use Rattle.put.proofs.Texts.{no-sized, sized}
+use Rattle.put.proofs.put_sized.Statement.{statement}
+use Rattle.put.proofs.put_sized.Tie as tie
 
 pub put-sized-spec : {M : Type 1} → statement M
 put-sized-spec =

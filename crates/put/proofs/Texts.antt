@@ -10,10 +10,8 @@ use Rattle.wire.specs.Writes.{inFront}
 use Rattle.wire.proofs.Writes.{no-front, fronted, behind}
 use Rattle.number.specs.BigEndian.{bytesOf}
 use Rattle.number.proofs.Widths.{length-bytesOf, low-bytes}
 use Rattle.text.specs.Texts.{sizedLayout}
-
-pub length-sized : (src : List ℕ) → length (sizedLayout src) ≡ 4 + length src
-length-sized src = length-append (bytesOf 4 (length src)) src ∙ rw (length-bytesOf 4 (length src))
+use Rattle.text.proofs.Layouts.{length-sized}
 
 module _ (src out : List ℕ) where
   pub copied : {new : List ℕ} → length src ≤ length out → new ≡ take (length src) src ++ drop (length src) out → new ≡ inFront src out

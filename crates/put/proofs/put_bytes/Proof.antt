@@ -2,9 +2,9 @@
 use borrow.Author.Needs.{needs}
 use native.Mathlib.Omega.{arith}
 use Rattle.wire.proofs.Writes.{no-front}
-use Rattle.text.proofs.Fronts.{copied}
-use Rattle.text.proofs.put.put_bytes.Statement.{statement}
-use Rattle.text.proofs.put.put_bytes.Tie as tie
+use Rattle.put.proofs.Texts.{copied}
+use Rattle.put.proofs.put_bytes.Statement.{statement}
+use Rattle.put.proofs.put_bytes.Tie as tie
 
 pub put-bytes-spec : {M : Type 1} → statement M
 put-bytes-spec =

@@ -4,8 +4,8 @@ use mathlib.Core.List.{[], _∷_}
 use native.Mathlib.Omega.{arith}
 use lib.Seq.{sets-eq}
 use Rattle.wire.proofs.Writes.{no-front, fronted}
-use Rattle.number.proofs.put.put8.Statement.{statement}
-use Rattle.number.proofs.put.put8.Tie as tie
+use Rattle.put.proofs.put8.Statement.{statement}
+use Rattle.put.proofs.put8.Tie as tie
 
 pub put8-spec : {M : Type 1} → statement M
 put8-spec =

@@ -1,8 +1,10 @@
-// A number's bytes at the front of a lent slice. Where there is no room for all of them, nothing is written.
+// The leaf writers: a number, or bytes alone and behind their size, at the front of a lent slice. Where there is no room for all of it, nothing
+// is written.
 ghost use mathlib.Core.Path.{_≡_};
-ghost use mathlib.Core.List.{[], _∷_};
 ghost use Rattle.wire.specs.Writes.{inFront};
 ghost use Rattle.number.specs.BigEndian.{bytesOf};
+ghost use Rattle.text.specs.Texts.{sizedLayout};
+ghost use mathlib.Core.List.{[], _∷_};
 
 pub fn put8(out: &mut [u8], v: u8)
     ensures { λ _. ⌜ now (out .exit) ≡ inFront (v ∷ []) (now (out .entry)) ⌝ }
@@ -60,4 +62,27 @@ pub fn put64(out: &mut [u8], v: u64)
     out[5] = (c % 256) as u8;
     out[6] = (b % 256) as u8;
     out[7] = (v % 256) as u8;
+}
+
+pub fn put_bytes(out: &mut [u8], src: &[u8])
+    ensures { λ _. ⌜ now (out .exit) ≡ inFront (now (src .entry)) (now (out .entry)) ⌝ }
+{
+    if out.len() < src.len() {
+        return;
+    }
+    bytes::copy(src, out);
+}
+
+// Texts, names and frames are written here.
+pub fn put_sized(out: &mut [u8], src: &[u8])
+    ensures { λ _. ⌜ now (out .exit) ≡ inFront (sizedLayout (now (src .entry))) (now (out .entry)) ⌝ }
+{
+    if out.len() < 4 {
+        return;
+    }
+    if out.len() - 4 < src.len() {
+        return;
+    }
+    put32(out, (src.len() % 4_294_967_296) as u32);
+    put_bytes(&mut out[4..], src);
 }
