@@ -5,20 +5,17 @@ use native.Mathlib.Omega.{arith}
 use mathlib.Core.Path.{_≡_, ap}
 use mathlib.Core.Bool.{true, false}
 use mathlib.Core.List.{List}
-use borrow.Author.Tests.{lt-ltb, le-ltb, eq-eqb, ne-eqb}
 use lib.IntN.{ℤ, pos, natAbs}
-use lib.ListN.{length}
 use Rattle.wire.specs.Answer.{gives, refused, refuseIf, andThen, mapped}
 use Rattle.codes.specs.Codes.{typeOf, isStop, leastSize}
 use Rattle.codes.specs.declared.TType.{TType}
 use Rattle.codes.specs.declared.Typed.the-variants as Type-of
 use Rattle.wire.proofs.Answers.{first-fault, goes-on}
 use Rattle.number.specs.Reads.{byteAt, i16At}
-use Rattle.config.specs.Limits.{above, reached}
-use Rattle.config.specs.declared.limit.Limit.{Limit}
+use Rattle.config.specs.Limits.{above}
 use Rattle.config.specs.declared.configuration.TConfiguration.{TConfiguration}
 use Rattle.text.specs.Texts.{sizeAt}
-use Rattle.read.specs.Headers.{typeAt, field, fieldAt, countAt, list, listAt, asSet, setAt, map, mapAt, structBeginAt, structEndAt}
+use Rattle.read.specs.Headers.{typeAt, field, fieldAt, countAt, list, listAt, asSet, setAt, map, mapAt}
 use Rattle.read.specs.declared.container.TListIdentifier.{TListIdentifier}
 
 module _ (s : List ℕ) (at : ℕ) where
@@ -110,47 +107,6 @@ module _ (c : TConfiguration) (s : List ℕ) (at : ℕ) where
       pub a-map : {size : ℤ} {end : ℕ} → gives size end ≡ countAt c (leastSize k + leastSize v) s next → gives (map k v size) end ≡ mapAt c s at
       unfolding mapAt andThen
       a-map g = rw (← e, ← f, ← g)
-
-module _ (limit : Limit) (depth : ℕ) (s : List ℕ) (at : ℕ) where
-  pub begin-beyond : length s < at → refused 2 at ≡ structBeginAt limit depth s at
-  unfolding structBeginAt refuseIf
-  begin-beyond h = rw (lt-ltb _ _ h)
-
-  module _ (h : at ≤ length s) where
-    pub begin-deep : 65535 < depth → refused 20 at ≡ structBeginAt limit depth s at
-    unfolding structBeginAt refuseIf
-    begin-deep i = rw (le-ltb _ _ h, lt-ltb _ _ i)
-
-    module _ (i : depth ≤ 65535) where
-      pub begin-limited : reached depth limit ≡ true → refused 11 at ≡ structBeginAt limit depth s at
-      unfolding structBeginAt refuseIf
-      begin-limited r = rw (le-ltb _ _ h, le-ltb _ _ i, r)
-
-      pub begin-last : reached depth limit ≡ false → depth ≡ 65535 → refused 11 at ≡ structBeginAt limit depth s at
-      unfolding structBeginAt refuseIf
-      begin-last r e = rw (le-ltb _ _ h, le-ltb _ _ i, r, eq-eqb _ _ e)
-
-      pub begun : reached depth limit ≡ false → (depth ≡ 65535 → ⊥) → gives (depth + 1) at ≡ structBeginAt limit depth s at
-      unfolding structBeginAt refuseIf
-      begun r e = rw (le-ltb _ _ h, le-ltb _ _ i, r, ne-eqb _ _ e)
-
-module _ (depth : ℕ) (s : List ℕ) (at : ℕ) where
-  pub ends-beyond : length s < at → refused 2 at ≡ structEndAt depth s at
-  unfolding structEndAt refuseIf
-  ends-beyond h = rw (lt-ltb _ _ h)
-
-  module _ (h : at ≤ length s) where
-    pub ends-deep : 65535 < depth → refused 20 at ≡ structEndAt depth s at
-    unfolding structEndAt refuseIf
-    ends-deep i = rw (le-ltb _ _ h, lt-ltb _ _ i)
-
-    pub none-open : depth ≤ 65535 → depth ≡ 0 → refused 14 at ≡ structEndAt depth s at
-    unfolding structEndAt refuseIf
-    none-open i e = rw (le-ltb _ _ h, le-ltb _ _ i, eq-eqb _ _ e)
-
-    pub ended : depth ≤ 65535 → (depth ≡ 0 → ⊥) → gives (depth - 1) at ≡ structEndAt depth s at
-    unfolding structEndAt refuseIf
-    ended i e = rw (le-ltb _ _ h, le-ltb _ _ i, ne-eqb _ _ e)
 
 -- a 32-bit size times a least size fits a word
 pub product-fits : (n least : ℕ) → n < 2 ^ 32 → least ≤ 32 → n * least < 2 ^ 64

@@ -1,11 +1,10 @@
 -- No two answers meet a promise of this crate: an answer is settled by what it tells. Assumes nothing.
-use Prim.Native.Nat.{ℕ}
 use mathlib.Core.Path.{_≡_, refl, ap}
 use Rattle.wire.specs.Answer.{Answer}
 use Rattle.codes.specs.declared.TType.{TType}
 use Rattle.wire.proofs.Refusals.{told-back}
 use Rattle.wire.proofs.Unique.{back, cursor-settled}
-use Rattle.read.specs.Told.{toldType, toldField, toldList, toldSet, toldMap, toldDepth}
+use Rattle.read.specs.Told.{toldType, toldField, toldList, toldSet, toldMap}
 use Rattle.read.specs.declared.field.TypeRead.{TypeRead}
 use Rattle.read.specs.declared.field.TypeRead.the-variants as Type-is
 use Rattle.read.specs.declared.field.TFieldIdentifier.{TFieldIdentifier}
@@ -20,8 +19,6 @@ use Rattle.read.specs.declared.container.SetRead.the-variants as Set-is
 use Rattle.read.specs.declared.container.TMapIdentifier.{TMapIdentifier}
 use Rattle.read.specs.declared.container.MapRead.{MapRead}
 use Rattle.read.specs.declared.container.MapRead.the-variants as Map-is
-use Rattle.read.specs.declared.structs.DepthRead.{DepthRead}
-use Rattle.read.specs.declared.structs.DepthRead.the-variants as Depth-is
 
 pub type-settled : {a b : TypeRead} {m : Answer TType} → toldType a ≡ m → toldType b ≡ m → a ≡ b
 unfolding back
@@ -62,11 +59,3 @@ map-settled = cursor-settled Map-is.Value Map-is.Refused toldMap same
     same : (a : MapRead) → back Map-is.Value Map-is.Refused (toldMap a) ≡ a
     same (Map-is.Value v c) = refl
     same (Map-is.Refused x) = ap Map-is.Refused (told-back x)
-
-pub depth-settled : {a b : DepthRead} {m : Answer ℕ} → toldDepth a ≡ m → toldDepth b ≡ m → a ≡ b
-unfolding back
-depth-settled = cursor-settled Depth-is.Value Depth-is.Refused toldDepth same
-  where
-    same : (a : DepthRead) → back Depth-is.Value Depth-is.Refused (toldDepth a) ≡ a
-    same (Depth-is.Value v c) = refl
-    same (Depth-is.Refused x) = ap Depth-is.Refused (told-back x)

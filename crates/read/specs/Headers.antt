@@ -1,17 +1,15 @@
--- Headers: a type byte, a field, lists, sets and maps, struct begin and end, and the ends that take no bytes.
-use Prim.Native.Nat.{ℕ, _+_, _*_, _-_}
+-- Headers: a type byte, a field, lists, sets and maps.
+use Prim.Native.Nat.{ℕ, _+_, _*_}
 use mathlib.Core.Bool.{cond}
 use mathlib.Core.List.{List}
-use lib.Dec.{ltb, eqb}
 use lib.IntN.{ℤ, pos, natAbs}
-use Rattle.wire.specs.Answer.{Answer, gives, refused, refuseIf, andThen, mapped, entry}
+use Rattle.wire.specs.Answer.{Answer, gives, refused, refuseIf, andThen, mapped}
 use Rattle.codes.specs.Codes.{typeOf, isStop, leastSize}
 use Rattle.codes.specs.declared.TType.{TType}
 use Rattle.codes.specs.declared.Typed.{Typed}
 use Rattle.codes.specs.declared.Typed.the-variants as Type-of
 use Rattle.number.specs.Reads.{byteAt, i16At}
-use Rattle.config.specs.Limits.{above, reached}
-use Rattle.config.specs.declared.limit.Limit.{Limit}
+use Rattle.config.specs.Limits.{above}
 use Rattle.config.specs.declared.configuration.TConfiguration.{TConfiguration}
 use Rattle.text.specs.Texts.{sizeAt}
 use Rattle.read.specs.declared.field.TFieldIdentifier.{TFieldIdentifier}
@@ -72,22 +70,3 @@ mapAt c s at =
     andThen (typeAt s value) λ v next.
     andThen (countAt c (leastSize k + leastSize v) s next) λ size end.
     gives (map k v size) end
-
--- "2, 20 (where it takes a skip depth or a struct depth)": here a struct depth
-abbrev pub depthEntry : {A : Type 0} → ℕ → List ℕ → ℕ → Answer A → Answer A
-depthEntry depth s at rest = entry s at (refuseIf (ltb 65535 depth) 20 at rest)
-
--- "refused (11) at depth at or above the limit, or at 65,535 whatever the limit"
-unfoldable pub structBeginAt : Limit → ℕ → List ℕ → ℕ → Answer ℕ
-structBeginAt limit depth s at =
-    depthEntry depth s at
-    (refuseIf (reached depth limit) 11 at
-    (refuseIf (eqb depth 65535) 11 at
-    (gives (depth + 1) at)))
-
--- "a struct end at 0 is 14"
-unfoldable pub structEndAt : ℕ → List ℕ → ℕ → Answer ℕ
-structEndAt depth s at =
-    depthEntry depth s at
-    (refuseIf (eqb depth 0) 14 at
-    (gives (depth - 1) at))

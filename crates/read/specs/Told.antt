@@ -1,5 +1,4 @@
 -- What each answer of this crate tells.
-use Prim.Native.Nat.{ℕ}
 use Rattle.wire.specs.Answer.{Answer, gives}
 use Rattle.wire.specs.Refusals.{toldRefusal}
 use Rattle.codes.specs.declared.TType.{TType}
@@ -17,8 +16,6 @@ use Rattle.read.specs.declared.container.SetRead.the-variants as Set-is
 use Rattle.read.specs.declared.container.TMapIdentifier.{TMapIdentifier}
 use Rattle.read.specs.declared.container.MapRead.{MapRead}
 use Rattle.read.specs.declared.container.MapRead.the-variants as Map-is
-use Rattle.read.specs.declared.structs.DepthRead.{DepthRead}
-use Rattle.read.specs.declared.structs.DepthRead.the-variants as Depth-is
 
 abbrev pub toldType : TypeRead → Answer TType
 toldType (Type-is.Value v c) = gives v (c .at)
@@ -39,7 +36,3 @@ toldSet (Set-is.Refused x) = toldRefusal x
 abbrev pub toldMap : MapRead → Answer TMapIdentifier
 toldMap (Map-is.Value v c) = gives v (c .at)
 toldMap (Map-is.Refused x) = toldRefusal x
-
-abbrev pub toldDepth : DepthRead → Answer ℕ
-toldDepth (Depth-is.Value v c) = gives v (c .at)
-toldDepth (Depth-is.Refused x) = toldRefusal x

@@ -13,7 +13,8 @@ use Rattle.config.specs.Limits.{builtFrom}
 use Rattle.config.specs.declared.configuration.TConfiguration.{TConfiguration}
 use Rattle.number.specs.Reads.{byteAt, boolAt, i8At, i16At, i32At, i64At, doubleAt}
 use Rattle.text.specs.Texts.{bytesAt, stringAt, uuidAt}
-use Rattle.read.specs.Headers.{typeAt, fieldAt, listAt, setAt, mapAt, structBeginAt, structEndAt}
+use Rattle.read.specs.Headers.{typeAt, fieldAt, listAt, setAt, mapAt}
+use Rattle.nesting.specs.Structs.{structBeginAt, structEndAt}
 use Rattle.scalar.specs.Scalars.{scalarAt}
 use Rattle.message.specs.Messages.{messageTypeAt, messageAt}
 use Rattle.framed.specs.Frames.{frameAt}

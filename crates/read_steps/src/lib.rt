@@ -82,9 +82,9 @@ fn bounded(bytes: &[u8], call: Reading, step: Bounded) -> Row
         Bounded::Set => rows::of_set(read::container::read_set_begin(bytes, at, limits)),
         Bounded::Map => rows::of_map(read::container::read_map_begin(bytes, at, limits)),
         Bounded::StructBegin => {
-            rows::of_depth(read::structs::read_struct_begin(bytes, at, depth, limits))
+            rows::of_depth(nesting::read_struct_begin(bytes, at, depth, limits))
         }
-        Bounded::StructEnd => { rows::of_depth(read::structs::read_struct_end(bytes, at, depth)) }
+        Bounded::StructEnd => { rows::of_depth(nesting::read_struct_end(bytes, at, depth)) }
         Bounded::Message => {
             rows::of_message(message::read_message_begin(bytes, at, strict, limits))
         }

@@ -3,11 +3,11 @@
 use codes::TType;
 use codes::shape::Shape;
 use config::configuration::TConfiguration;
+use nesting::DepthRead;
 use number::I32Read;
 use read::container::ListRead;
 use read::container::MapRead;
 use read::field::FieldRead;
-use read::structs::DepthRead;
 use text::Body;
 use wire::cursor::Cursor;
 use wire::cursor::Moved;
@@ -122,7 +122,7 @@ fn skip_struct(
     requires { ⌜ 0 < depth ⌝ }
     ensures { λ r. ⌜ Answers config (now (bytes .entry)) start depth «struct_depth» Shape.Fields (toldWalked r) ⌝ }
 {
-    match read::structs::read_struct_begin(bytes, Cursor { at: start }, struct_depth, config) {
+    match nesting::read_struct_begin(bytes, Cursor { at: start }, struct_depth, config) {
         DepthRead::Value(inner, _) => {
             let mut at = start;
             let mut count: usize = 1;

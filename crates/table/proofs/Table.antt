@@ -23,7 +23,8 @@ use Rattle.utf8.specs.UpTo.{upTo, upTo-only}
 use Rattle.text.specs.declared.Span.{Span}
 use Rattle.text.specs.Texts.{span, sizeAt, limitedAt, sizedAt, stringAt}
 use Rattle.text.proofs.Texts as texts
-use Rattle.read.specs.Headers.{typeAt, fieldAt, countAt, listAt, structBeginAt}
+use Rattle.read.specs.Headers.{typeAt, fieldAt, countAt, listAt}
+use Rattle.nesting.specs.Structs.{structBeginAt}
 use Rattle.message.specs.Messages.{messageTypeAt, namedAt, versionedAt, unversionedAt, messageAt}
 use Rattle.tree.specs.Answers.{Outcome, SkipAnswers, Stands, IsCut}
 use Rattle.tree.proofs.Only.{skip-only}

@@ -27,7 +27,8 @@ use Rattle.config.specs.declared.configuration.TConfiguration.{TConfiguration}
 use Rattle.config.proofs.Room.{still-within, still-below}
 use Rattle.text.specs.Texts.{sizeAt, sizedAt, bytesAt, limitedAt}
 use Rattle.text.proofs.Texts.{limited-is}
-use Rattle.read.specs.Headers.{typeAt, field, fieldAt, countAt, listAt, mapAt, structBeginAt}
+use Rattle.read.specs.Headers.{typeAt, field, fieldAt, countAt, listAt, mapAt}
+use Rattle.nesting.specs.Structs.{structBeginAt}
 use Rattle.tree.specs.Answers.{shapeOwn, ownAt}
 use Rattle.tree.specs.Room.{Unnamed}
 use Rattle.tree.proofs.Heads.{clash, number-is, type-is}

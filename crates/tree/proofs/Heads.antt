@@ -34,7 +34,8 @@ use Rattle.codes.specs.declared.TType.the-variants as T
 use Rattle.read.specs.declared.container.TListIdentifier.{TListIdentifier}
 use Rattle.read.specs.declared.container.TMapIdentifier.{TMapIdentifier}
 use Rattle.read.specs.declared.field.TFieldIdentifier.{TFieldIdentifier}
-use Rattle.read.specs.Headers.{known, typeAt, field, fieldAt, countAt, list, listAt, map, mapAt, structBeginAt}
+use Rattle.read.specs.Headers.{known, typeAt, field, fieldAt, countAt, list, listAt, map, mapAt}
+use Rattle.nesting.specs.Structs.{structBeginAt}
 use Rattle.tree.specs.Part.{Part}
 use Rattle.tree.specs.Tree.{Reads, TextFits, SizeFits}
 use Rattle.tree.proofs.Parts.{part-run, part-to, part-is, part-join, part-length}

@@ -15,7 +15,8 @@ use Rattle.codes.specs.declared.shape.Shape.{Shape}
 use Rattle.codes.specs.declared.shape.Shape.the-variants as Sh
 use Rattle.config.specs.declared.configuration.TConfiguration.{TConfiguration}
 use Rattle.text.specs.Texts.{bytesAt}
-use Rattle.read.specs.Headers.{fieldAt, listAt, mapAt, structBeginAt}
+use Rattle.read.specs.Headers.{fieldAt, listAt, mapAt}
+use Rattle.nesting.specs.Structs.{structBeginAt}
 use Rattle.read.specs.declared.field.TFieldIdentifier.{TFieldIdentifier}
 use Rattle.read.specs.declared.container.TListIdentifier.{TListIdentifier}
 use Rattle.read.specs.declared.container.TMapIdentifier.{TMapIdentifier}

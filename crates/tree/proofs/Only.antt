@@ -16,7 +16,8 @@ use Rattle.codes.specs.declared.shape.Shape.{Shape}
 use Rattle.codes.specs.declared.shape.Shape.the-variants as Sh
 use Rattle.config.specs.declared.configuration.TConfiguration.{TConfiguration}
 use Rattle.number.specs.BigEndian.{bytesOf}
-use Rattle.read.specs.Headers.{field, fieldAt, list, listAt, map, mapAt, structBeginAt}
+use Rattle.read.specs.Headers.{field, fieldAt, list, listAt, map, mapAt}
+use Rattle.nesting.specs.Structs.{structBeginAt}
 use Rattle.tree.specs.Part.{Part}
 use Rattle.tree.specs.Tree.{Tree, Fields, Trees, Pairs, scalar, text, struct, list as list-of, map as map-of, nil, snoc, none, then, empty, with, layout, fieldsLayout, treesLayout, pairsLayout, valuesOf, fieldsValues, treesValues, pairsValues, countOf, pairsOf, Fits, FieldsFit, TreesFit, PairsFit}
 use Rattle.tree.specs.Answers.{Outcome, ended, cut-off, leafOutcome, shapeOwn, ownAt, Cut, here, head, field-value, element, key, value, begunOf, Faults, Answers, skipEntry, AfterEntry, SkipAnswers}

@@ -22,7 +22,8 @@ use Rattle.config.specs.declared.limit.Limit.{Limit}
 use Rattle.config.specs.declared.configuration.TConfiguration.{TConfiguration}
 use Rattle.text.specs.Texts.{sizeAt, sizedAt, limitedAt}
 use Rattle.text.proofs.Texts.{limited-is}
-use Rattle.read.specs.Headers.{known, typeAt, field, fieldAt, countAt, listAt, mapAt, structBeginAt}
+use Rattle.read.specs.Headers.{known, typeAt, field, fieldAt, countAt, listAt, mapAt}
+use Rattle.nesting.specs.Structs.{structBeginAt}
 use Rattle.tree.specs.Answers.{shapeOwn, ownAt}
 use Rattle.tree.proofs.Heads.{clash, number-is, type-is}
 

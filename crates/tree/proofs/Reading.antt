@@ -24,8 +24,10 @@ use Rattle.config.specs.declared.limit.Limit.{Limit}
 use Rattle.config.specs.declared.configuration.TConfiguration.{TConfiguration}
 use Rattle.text.specs.Texts.{span, sizedLayout, sizeAt, sizedAt, bytesAt}
 use Rattle.text.proofs.Texts as texts
-use Rattle.read.specs.Headers.{typeAt, field, fieldAt, countAt, list, listAt, map, mapAt, structBeginAt}
+use Rattle.read.specs.Headers.{typeAt, field, fieldAt, countAt, list, listAt, map, mapAt}
+use Rattle.nesting.specs.Structs.{structBeginAt}
 use Rattle.read.proofs.Headers as headers
+use Rattle.nesting.proofs.Structs as structs
 use Rattle.tree.specs.Part.{Part}
 use Rattle.tree.specs.Tree.{Reads, TextFits, SizeFits}
 use Rattle.tree.proofs.Parts.{part-length, part-split}
@@ -104,4 +106,4 @@ stop-reads {s} {at} p = headers.stop s at (type-reads T.Stop refl p) refl
 -- a struct begins where there is room for one more
 pub struct-reads : (c : TConfiguration) (sd : ℕ) (s : List ℕ) (at : ℕ) → at ≤ length s → reached sd (c .«max_recursion_depth») ≡ false → sd < 65535
     → gives (sd + 1) at ≡ structBeginAt (c .«max_recursion_depth») sd s at
-struct-reads c sd s at h l i = headers.begun (c .«max_recursion_depth») sd s at h (omega arith) l (λ e. omega arith)
+struct-reads c sd s at h l i = structs.begun (c .«max_recursion_depth») sd s at h (omega arith) l (λ e. omega arith)

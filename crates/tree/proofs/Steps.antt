@@ -20,7 +20,8 @@ use Rattle.number.specs.BigEndian.{bytesOf}
 use Rattle.number.proofs.Widths.{Octets}
 use Rattle.text.specs.Texts.{bytesAt}
 use Rattle.text.specs.declared.Span.{Span}
-use Rattle.read.specs.Headers.{field, fieldAt, list, listAt, map, mapAt, structBeginAt}
+use Rattle.read.specs.Headers.{field, fieldAt, list, listAt, map, mapAt}
+use Rattle.nesting.specs.Structs.{structBeginAt}
 use Rattle.tree.specs.Part.{Part}
 use Rattle.tree.specs.Tree.{Fields, Trees, Pairs, scalar, text, struct, list as list-of, map as map-of, nil, snoc, none, then, empty, with, layout, fieldsLayout, treesLayout, pairsLayout, valuesOf, fieldsValues, treesValues, pairsValues, countOf, pairsOf, SizeFits, Fits, FieldsFit, TreesFit, PairsFit}
 use Rattle.tree.specs.Answers.{shapeOwn, ownAt, here, head, field-value, element, key, value, begunOf, OpenStruct, OpenMap, Faults, Stands, IsCut}

@@ -20,7 +20,7 @@ use Rattle.codes.specs.declared.Messaged.{Messaged}
 use Rattle.codes.specs.declared.Messaged.the-variants as Message-of
 use Rattle.number.specs.BigEndian.{bytesOf}
 use Rattle.text.specs.Texts.{sizedLayout}
-use Rattle.read.specs.Headers.{structBeginAt, structEndAt}
+use Rattle.nesting.specs.Structs.{structBeginAt, structEndAt}
 use Rattle.read.specs.Layouts.{listLayout}
 use Rattle.message.specs.Layouts.{messageLayout}
 use Rattle.write.specs.Outputs.{boolByte, bytesOutput, namedOutput}

@@ -9,7 +9,8 @@ use mir.Val.{toZ, ofZ}
 use native.Mathlib.Omega.{arith}
 use borrow.Author.Needs.{needs}
 use Rattle.wire.proofs.Answers.{told-as}
-use Rattle.read.specs.Told.{toldField, toldList, toldMap, toldDepth}
+use Rattle.read.specs.Told.{toldField, toldList, toldMap}
+use Rattle.nesting.specs.Structs.{toldDepth}
 use Rattle.skip.specs.Told.{toldWalked}
 use Rattle.tree.proofs.Steps as steps
 use Rattle.tree.proofs.Bounds.{stands-count, cut-small}
@@ -39,7 +40,7 @@ use Rattle.sign.proofs.bits32.Reads as bits32-reads
 use Rattle.read.proofs.container.read_list_begin.Reads as read-list-begin-reads
 use Rattle.read.proofs.container.read_map_begin.Reads as read-map-begin-reads
 use Rattle.read.proofs.field.read_field_begin.Reads as read-field-begin-reads
-use Rattle.read.proofs.structs.read_struct_begin.Reads as read-struct-begin-reads
+use Rattle.nesting.proofs.read_struct_begin.Reads as read-struct-begin-reads
 use Rattle.skip.proofs.value.refused.Reads as refused-reads
 use Rattle.skip.proofs.value.skip_fixed.Reads as skip-fixed-reads
 use Rattle.skip.proofs.value.skip_run.Reads as skip-run-reads

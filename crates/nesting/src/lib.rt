@@ -4,8 +4,7 @@ use wire::cursor::Cursor;
 use wire::refusal::Kind;
 use wire::refusal::Refusal;
 ghost use mathlib.Core.Path.{_≡_};
-ghost use Rattle.read.specs.Headers.{structBeginAt, structEndAt};
-ghost use Rattle.read.specs.Told.{toldDepth};
+ghost use Rattle.nesting.specs.Structs.{structBeginAt, structEndAt, toldDepth};
 
 // The struct depth from here on, and the cursor.
 pub enum DepthRead {

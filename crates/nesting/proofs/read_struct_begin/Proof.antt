@@ -2,10 +2,10 @@
 use borrow.Author.Needs.{needs}
 use native.Mathlib.Omega.{arith}
 use mathlib.Core.Path.{sym, ap, _∙_}
-use Rattle.read.specs.Told.{toldDepth}
-use Rattle.read.proofs.Headers.{begin-beyond, begin-deep, begin-limited, begin-last, begun}
-use Rattle.read.proofs.structs.read_struct_begin.Statement.{statement}
-use Rattle.read.proofs.structs.read_struct_begin.Tie as tie
+use Rattle.nesting.specs.Structs.{toldDepth}
+use Rattle.nesting.proofs.Structs.{begin-beyond, begin-deep, begin-limited, begin-last, begun}
+use Rattle.nesting.proofs.read_struct_begin.Statement.{statement}
+use Rattle.nesting.proofs.read_struct_begin.Tie as tie
 
 pub read-struct-begin-spec : {M : Type 1} → statement M
 read-struct-begin-spec =

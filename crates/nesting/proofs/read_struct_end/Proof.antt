@@ -2,10 +2,10 @@
 use borrow.Author.Needs.{needs}
 use native.Mathlib.Omega.{arith}
 use mathlib.Core.Path.{ap, _∙_}
-use Rattle.read.specs.Told.{toldDepth}
-use Rattle.read.proofs.Headers.{ends-beyond, ends-deep, none-open, ended}
-use Rattle.read.proofs.structs.read_struct_end.Statement.{statement}
-use Rattle.read.proofs.structs.read_struct_end.Tie as tie
+use Rattle.nesting.specs.Structs.{toldDepth}
+use Rattle.nesting.proofs.Structs.{ends-beyond, ends-deep, none-open, ended}
+use Rattle.nesting.proofs.read_struct_end.Statement.{statement}
+use Rattle.nesting.proofs.read_struct_end.Tie as tie
 
 pub read-struct-end-spec : {M : Type 1} → statement M
 read-struct-end-spec =
