@@ -25,7 +25,7 @@ use Rattle.skip.proofs.Entry.{entry-beyond, entry-depth, entry-struct-d
 -- with the start not past the end and both depths allowed
 module _ (c : TConfiguration) (s : List ℕ) (at d sd : ℕ) (t : TType) (h : at ≤ length s) (i : d ≤ 127) (j : sd ≤ 65535) where
   pub enter : (x : Outcome) → SkipAnswers c s at d sd t x → Answers c s at d sd (shapeOf t) x
-  enter x a = subst (λ (m : Answer Unit). AfterEntry m c s at d sd (shapeOf t) x) (entered c s at d sd t h i j) a
+  enter x a = subst (λ (m : Answer Unit). AfterEntry m c s at d sd (shapeOf t) x) (entered s at d sd h j i) a
 
   module _ (r : Skipped) (says : SkipSays c s at d sd t r) where
     pub accepts : (e n : ℕ) → (toldSkipped r ≡ ended e n) ↔ Stands c s at d sd (shapeOf t) e n
@@ -43,24 +43,24 @@ module _ (c : TConfiguration) (s : List ℕ) (at d sd : ℕ) (t : TType) (h : at
 -- for every start and depth: it accepts exactly where a value stands
 module _ (c : TConfiguration) (s : List ℕ) (at d sd : ℕ) (t : TType) where
   -- an entry that refuses is all that is answered
-  barred : {k p : ℕ} (x : Outcome) → skipEntry d sd s at ≡ refused k p → SkipAnswers c s at d sd t x → x ≡ cut-off k p 0
-  barred x e a = subst (λ (m : Answer Unit). AfterEntry m c s at d sd (shapeOf t) x) e a
+  all : {k p : ℕ} (x : Outcome) → skipEntry d sd s at ≡ refused k p → SkipAnswers c s at d sd t x → x ≡ cut-off k p 0
+  all x e a = subst (λ (m : Answer Unit). AfterEntry m c s at d sd (shapeOf t) x) e a
 
   -- 2 and 20 apart, the entry lets in
   pub by-entry : {P : Type 0} (x : Outcome) → SkipAnswers c s at d sd t x → ((k : ℕ) → x ≡ cut-off k at 0 → P) → (at ≤ length s → d ≤ 127 → sd ≤ 65535 → P) → P
   by-entry {P} x a out on = go (decLt (length s) at)
     where
-      structs : at ≤ length s → d ≤ 127 → Dec (65535 < sd) → P
-      structs h i (yes j) = out 20 (barred x (entry-struct-depth c s at d sd t h i j) a)
-      structs h i (no j) = on h i (omega arith)
+      depth : at ≤ length s → sd ≤ 65535 → Dec (127 < d) → P
+      depth h j (yes i) = out 20 (all x (entry-depth s at d sd h j i) a)
+      depth h j (no i) = on h (omega arith) j
 
-      depth : at ≤ length s → Dec (127 < d) → P
-      depth h (yes i) = out 20 (barred x (entry-depth c s at d sd t h i) a)
-      depth h (no i) = structs h (omega arith) (decLt 65535 sd)
+      structs : at ≤ length s → Dec (65535 < sd) → P
+      structs h (yes j) = out 20 (all x (entry-struct-depth s at d sd h j) a)
+      structs h (no j) = depth h (omega arith) (decLt 127 d)
 
       go : Dec (length s < at) → P
-      go (yes h) = out 2 (barred x (entry-beyond c s at d sd t h) a)
-      go (no h) = depth (omega arith) (decLt 127 d)
+      go (yes h) = out 2 (all x (entry-beyond s at d sd h) a)
+      go (no h) = structs (omega arith) (decLt 65535 sd)
 
   pub accepts-exactly : (r : Skipped) → SkipSays c s at d sd t r → (e n : ℕ) → (toldSkipped r ≡ ended e n) ↔ StandsHere c s at d sd t e n
   accepts-exactly r says e n = (

@@ -27,10 +27,10 @@ module _ (old new : TConfiguration) (room : Roomier old new) (s x : List ℕ) (a
   longer = simp length-append (omega arith)
 
   -- a struct depth above 65,535 is refused by both, before all else
-  too-deep : 65535 < sd → (c : TConfiguration) (y : List ℕ) (k : ℕ) (r : Skipped) → at ≤ length y → k ≤ 127 → SkipSays c y at k sd t r
+  too-deep : 65535 < sd → (c : TConfiguration) (y : List ℕ) (k : ℕ) (r : Skipped) → at ≤ length y → SkipSays c y at k sd t r
       → toldSkipped r ≡ cut-off 20 at 0
-  too-deep g c y k r l m says =
-      subst (λ (n : Answer Unit). AfterEntry n c y at k sd (shapeOf t) (toldSkipped r)) (entry-struct-depth c y at k sd t l m g) (says .answers)
+  too-deep g c y k r l says =
+      subst (λ (n : Answer Unit). AfterEntry n c y at k sd (shapeOf t) (toldSkipped r)) (entry-struct-depth y at k sd l g) (says .answers)
 
   -- an accept stays, with the same end and count
   pub accept-stays : (end n : ℕ) → toldSkipped a ≡ ended end n → toldSkipped b ≡ ended end n
@@ -38,7 +38,7 @@ module _ (old new : TConfiguration) (room : Roomier old new) (s x : List ℕ) (a
     where
       go : Dec (65535 < sd) → toldSkipped b ≡ ended end n
       go (yes g) =
-          let f : cut-off 20 at 0 ≡ ended end n = sym (too-deep g old s d a h (omega arith) first) ∙ q in
+          let f : cut-off 20 at 0 ≡ ended end n = sym (too-deep g old s d a h first) ∙ q in
           clash (cc)
       go (no g) =
           let k : sd ≤ 65535 = omega arith in
@@ -50,7 +50,7 @@ module _ (old new : TConfiguration) (room : Roomier old new) (s x : List ℕ) (a
   refusal-stays k p n q u = go (decLt 65535 sd)
     where
       go : Dec (65535 < sd) → toldSkipped b ≡ cut-off k p n
-      go (yes g) = too-deep g new (s ++ x) e b longer j second ∙ sym (too-deep g old s d a h (omega arith) first) ∙ q
+      go (yes g) = too-deep g new (s ++ x) e b longer second ∙ sym (too-deep g old s d a h first) ∙ q
       go (no g) =
           let m : sd ≤ 65535 = omega arith in
           refuses new (s ++ x) at e sd t longer j m b second k p n .1

@@ -47,10 +47,10 @@ pub fn skip_till_depth(
     if bytes.len() < at {
         return refused(Kind::StartBeyond, at);
     }
-    if 127 < depth {
+    if 65_535 < struct_depth {
         return refused(Kind::DepthBeyond, at);
     }
-    if 65_535 < struct_depth {
+    if 127 < depth {
         return refused(Kind::DepthBeyond, at);
     }
     match crate::value::skip_value(bytes, cursor, field_type, depth, struct_depth, config) {

@@ -6,7 +6,7 @@ use mathlib.Core.List.{List}
 use lib.ListN.{length}
 use lib.Dec.{eqb, ltb}
 use lib.IntN.{ℤ, natAbs}
-use Rattle.wire.specs.Answer.{Answer, gives, refused, refuseIf, judged, entry, within}
+use Rattle.wire.specs.Answer.{Answer, gives, refused, refuseIf, judged, within}
 use Rattle.codes.specs.Codes.{isStop}
 use Rattle.codes.specs.Shapes.{shapeOf}
 use Rattle.codes.specs.declared.TType.{TType}
@@ -15,7 +15,7 @@ use Rattle.codes.specs.declared.shape.Shape.the-variants as Sh
 use Rattle.config.specs.declared.configuration.TConfiguration.{TConfiguration}
 use Rattle.text.specs.Texts.{bytesAt}
 use Rattle.read.specs.Headers.{field, fieldAt, list, listAt, map, mapAt}
-use Rattle.nesting.specs.Structs.{structBeginAt}
+use Rattle.nesting.specs.Structs.{depthEntry, structBeginAt}
 use Rattle.tree.specs.Part.{Part}
 use Rattle.tree.specs.Tree.{Tree, Fields, Trees, Pairs, layout, fieldsLayout, treesLayout, pairsLayout, valuesOf, fieldsValues, treesValues, pairsValues, countOf, pairsOf, Fits, FieldsFit, TreesFit, PairsFit}
 
@@ -152,7 +152,7 @@ Answers c s at d sd sh (cut-off n p count) = IsCut c s at d sd sh n p count
 
 -- "Order at every entry: 2, 20", with count 0, then the value
 abbrev pub skipEntry : ℕ → ℕ → List ℕ → ℕ → Answer Unit
-skipEntry d sd s at = entry s at (refuseIf (ltb 127 d) 20 at (refuseIf (ltb 65535 sd) 20 at (gives tt at)))
+skipEntry d sd s at = depthEntry sd s at (refuseIf (ltb 127 d) 20 at (gives tt at))
 
 abbrev pub AfterEntry : Answer Unit → TConfiguration → List ℕ → ℕ → ℕ → ℕ → Shape → Outcome → Type 0
 AfterEntry (refused n p) c s at d sd sh x = x ≡ cut-off n p 0

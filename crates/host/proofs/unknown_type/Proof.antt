@@ -3,8 +3,6 @@ use borrow.Author.Needs.{needs}
 use native.Mathlib.Omega.{arith}
 use lib.Dec.{lit≤}
 use Rattle.wire.specs.Answer.{gives, refused}
-use Rattle.codes.specs.declared.TType.the-variants as T
-use Rattle.config.specs.Limits.{defaultLimits}
 use Rattle.skip.specs.Skips.{toldSkipped}
 use Rattle.skip.proofs.Entry.{entry-beyond, entry-depth, entered}
 use Rattle.host.proofs.Rows.{unknown-as}
@@ -16,8 +14,8 @@ unknown-type-spec =
     tie.close
     (tie.spec
     (λ c κs. search needs)
-    (λ c. let a = c .before .before .before .args in unknown-as (a .bytes .now) (a .place) (a .depth) (refused 2 (a .place)) (toldSkipped (c .refused .result)) (entry-beyond defaultLimits (a .bytes .now) (a .place) (a .depth) 0 T.Stop (omega arith)) (c .refused .ensures))
+    (λ c. let a = c .before .before .before .args in unknown-as (a .bytes .now) (a .place) (a .depth) (refused 2 (a .place)) (toldSkipped (c .refused .result)) (entry-beyond (a .bytes .now) (a .place) (a .depth) 0 (omega arith)) (c .refused .ensures))
     (λ c κs. search needs)
-    (λ c. let a = c .before .before .before .before .args in unknown-as (a .bytes .now) (a .place) (a .depth) (refused 20 (a .place)) (toldSkipped (c .refused2 .result)) (entry-depth defaultLimits (a .bytes .now) (a .place) (a .depth) 0 T.Stop (omega arith) (omega arith)) (c .refused2 .ensures))
+    (λ c. let a = c .before .before .before .before .args in unknown-as (a .bytes .now) (a .place) (a .depth) (refused 20 (a .place)) (toldSkipped (c .refused2 .result)) (entry-depth (a .bytes .now) (a .place) (a .depth) 0 (omega arith) (lit≤ tt) (omega arith)) (c .refused2 .ensures))
     (λ c κs. search needs)
-    (λ c. let a = c .before .before .before .before .args in unknown-as (a .bytes .now) (a .place) (a .depth) (gives tt (a .place)) (toldSkipped (c .refused3 .result)) (entered defaultLimits (a .bytes .now) (a .place) (a .depth) 0 T.Stop (omega arith) (omega arith) (lit≤ tt)) (c .refused3 .ensures)))
+    (λ c. let a = c .before .before .before .before .args in unknown-as (a .bytes .now) (a .place) (a .depth) (gives tt (a .place)) (toldSkipped (c .refused3 .result)) (entered (a .bytes .now) (a .place) (a .depth) 0 (omega arith) (lit≤ tt) (omega arith)) (c .refused3 .ensures)))
