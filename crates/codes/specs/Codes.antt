@@ -31,7 +31,7 @@ typeByte T.Set = 0x0E
 typeByte T.List = 0x0F
 typeByte T.Uuid = 0x10
 
--- what the bytes from 00 on are read as: 0B as String; 05, 07 and 09 stand for nothing, and so do all above 10
+-- what the bytes from 00 on are read as: 0B as String; 05, 07 and 09 stand for nothing, and so do all above 10 (hex)
 abbrev pub types : List Typed
 types =
     Type-of.Known T.Stop

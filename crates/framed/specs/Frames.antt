@@ -10,7 +10,7 @@ use Rattle.text.specs.Texts.{sizedAt, bytesIn}
 use Rattle.text.specs.declared.Span.{Span}
 use Rattle.write.specs.Outputs.{bytesOutput}
 
--- a frame, by where its payload stands, or that there is none
+-- a frame, by where its payload stands, or that no frame follows
 pub data Next : Type 0 where
   frame : Span → Next
   end : Next

@@ -23,7 +23,7 @@ rowOf (cut-off k p n) = record { number = k; place = p; count = n }
 abbrev pub filled : Row → List ℕ → List ℕ
 filled w old = (bytesOf 8 (w .number) ++ bytesOf 8 (w .place) ++ bytesOf 8 (w .count)) ++ drop 24 old
 
--- "an unknown type byte is 5 at the start, count 0, after 2 and 20"
+-- "An unknown type byte is 5 at the start, count 0, after 2 and 20"
 abbrev pub UnknownAfter : Answer Unit → ℕ → Outcome → Type 0
 UnknownAfter (refused n p) at x = x ≡ cut-off n p 0
 UnknownAfter (gives u q) at x = x ≡ cut-off 5 at 0

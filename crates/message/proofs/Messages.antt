@@ -17,7 +17,7 @@ use Rattle.config.specs.declared.limit.Limit.{Limit}
 use Rattle.text.specs.declared.Span.{Span}
 use Rattle.message.specs.declared.TMessageIdentifier.{TMessageIdentifier}
 use Rattle.text.specs.Texts.{stringAt}
-use Rattle.message.specs.Messages.{messageTypeAt, message, namedAt, versionedAt, unversionedAt, messageAt}
+use Rattle.message.specs.Messages.{messageTypeAt, message, sequenceAt, versionedAt, unversionedAt, messageAt}
 use Rattle.text.proofs.Texts.{Lies, string-lies}
 
 module _ (s : List ℕ) (at : ℕ) where
@@ -35,12 +35,12 @@ module _ (s : List ℕ) (at : ℕ) where
     message-unknown h = rw (← e, h)
 
   module _ (name : Span) (t : TMessageType) where
-    pub no-sequence : {n p : ℕ} → refused n p ≡ i32At s at → refused n p ≡ namedAt name t s at
-    unfolding namedAt
+    pub no-sequence : {n p : ℕ} → refused n p ≡ i32At s at → refused n p ≡ sequenceAt name t s at
+    unfolding sequenceAt
     no-sequence e = first-fault _ e
 
-    pub sequence : {seq : ℤ} {end : ℕ} → gives seq end ≡ i32At s at → gives (message name t seq) end ≡ namedAt name t s at
-    unfolding namedAt
+    pub sequence : {seq : ℤ} {end : ℕ} → gives seq end ≡ i32At s at → gives (message name t seq) end ≡ sequenceAt name t s at
+    unfolding sequenceAt
     sequence e = goes-on _ e
 
 module _ (limit : Limit) (s : List ℕ) (at : ℕ) where
@@ -54,7 +54,7 @@ module _ (limit : Limit) (s : List ℕ) (at : ℕ) where
     versioned-name f = rw (← e, ← f)
 
     pub versioned : {name : Span} {next : ℕ} {r : Answer TMessageIdentifier} → gives name next ≡ stringAt limit s named
-        → r ≡ namedAt name t s next → r ≡ versionedAt limit s at
+        → r ≡ sequenceAt name t s next → r ≡ versionedAt limit s at
     unfolding versionedAt andThen
     versioned f g = rw (← e, ← f) g
 
@@ -68,7 +68,7 @@ module _ (limit : Limit) (s : List ℕ) (at : ℕ) where
     unversioned-type f = rw (← e, ← f)
 
     pub unversioned : {t : TMessageType} {next : ℕ} {r : Answer TMessageIdentifier} → gives t next ≡ messageTypeAt s typed
-        → r ≡ namedAt name t s next → r ≡ unversionedAt limit s at
+        → r ≡ sequenceAt name t s next → r ≡ unversionedAt limit s at
     unfolding unversionedAt andThen
     unversioned f g = rw (← e, ← f) g
 
@@ -102,8 +102,8 @@ module _ (strict : Bool) (limit : Limit) (s : List ℕ) (at : ℕ) where
         newer j f = rw (← e, le-ltb _ _ h, eq-eqb _ _ i, eq-eqb _ _ j) f
 
 -- the name of what was read lies inside
-name-in-named : (name : Span) (t : TMessageType) (s : List ℕ) (at : ℕ) {m : TMessageIdentifier} {q : ℕ} → gives m q ≡ namedAt name t s at → m .name ≡ name
-unfolding namedAt
+name-in-named : (name : Span) (t : TMessageType) (s : List ℕ) (at : ℕ) {m : TMessageIdentifier} {q : ℕ} → gives m q ≡ sequenceAt name t s at → m .name ≡ name
+unfolding sequenceAt
 name-in-named name t s at {m} {q} e =
     let a = went (i32At s at) _ e in
     let same : m ≡ message name t (a .value) = cc (a .on) in

@@ -28,15 +28,15 @@ abbrev pub message : Span → TMessageType → ℤ → TMessageIdentifier
 message name t seq = record { name = name; «message_type» = t; «sequence_number» = seq }
 
 -- "then a 32-bit sequence number"
-unfoldable pub namedAt : Span → TMessageType → List ℕ → ℕ → Answer TMessageIdentifier
-namedAt name t s at = andThen (i32At s at) λ seq end. gives (message name t seq) end
+unfoldable pub sequenceAt : Span → TMessageType → List ℕ → ℕ → Answer TMessageIdentifier
+sequenceAt name t s at = andThen (i32At s at) λ seq end. gives (message name t seq) end
 
 -- from the type byte on: "byte 3 is the type (4), then name, then a 32-bit sequence number"
 unfoldable pub versionedAt : Limit → List ℕ → ℕ → Answer TMessageIdentifier
 versionedAt limit s at =
     andThen (messageTypeAt s at) λ t named.
     andThen (stringAt limit s named) λ name next.
-    namedAt name t s next
+    sequenceAt name t s next
 
 -- "the four bytes are the name length, then limit (7), body (1), UTF-8 (13), type byte (1, 4), sequence number": with its top bit clear
 -- the length is not negative, so this is a string at the same place
@@ -44,7 +44,7 @@ unfoldable pub unversionedAt : Limit → List ℕ → ℕ → Answer TMessageIde
 unversionedAt limit s at =
     andThen (stringAt limit s at) λ name typed.
     andThen (messageTypeAt s typed) λ t next.
-    namedAt name t s next
+    sequenceAt name t s next
 
 -- "Top bit set: bytes 0 and 1 must be 80 01 (else 3), byte 2 is ignored"; "Top bit clear: in strict mode 3"
 unfoldable pub messageAt : Bool → Limit → List ℕ → ℕ → Answer TMessageIdentifier

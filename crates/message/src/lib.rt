@@ -13,7 +13,7 @@ use wire::refusal::Refusal;
 ghost use mathlib.Core.Path.{_≡_};
 ghost use Rattle.wire.specs.Answer.{stayAt};
 ghost use Rattle.wire.specs.Refusals.{toldMoved};
-ghost use Rattle.message.specs.Messages.{messageTypeAt, namedAt, unversionedAt, versionedAt, messageAt, nameOf};
+ghost use Rattle.message.specs.Messages.{messageTypeAt, sequenceAt, unversionedAt, versionedAt, messageAt, nameOf};
 ghost use Rattle.text.specs.Texts.{partOf};
 ghost use Rattle.message.specs.Told.{toldMessageType, toldMessage};
 
@@ -56,7 +56,7 @@ fn read_sequence(
     name: Span,
     message_type: TMessageType,
 ) -> MessageRead
-    ensures { λ r. ⌜ toldMessage r ≡ namedAt name «message_type» (now (bytes .entry)) (cursor .at) ⌝ }
+    ensures { λ r. ⌜ toldMessage r ≡ sequenceAt name «message_type» (now (bytes .entry)) (cursor .at) ⌝ }
 {
     match number::read_i32(bytes, cursor) {
         I32Read::Value(sequence_number, next) => MessageRead::Value(

@@ -21,7 +21,7 @@ structBeginAt limit depth s at =
     (refuseIf (eqb depth 65535) 11 at
     (gives (depth + 1) at)))
 
--- "a struct end at 0 is 14"
+-- "A struct end at 0 is 14"
 unfoldable pub structEndAt : ℕ → List ℕ → ℕ → Answer ℕ
 structEndAt depth s at =
     depthEntry depth s at

@@ -35,7 +35,7 @@ fieldAt s at =
     cond (isStop t) (gives (field t (pos 0)) next)
     (andThen (i16At s next) λ id end. gives (field t id) end)
 
--- a number of elements of at least so many bytes each: "then 6, 8, 9", and rule 9 counts size times the least bytes
+-- a number of elements of at least so many bytes each: "Then 6, 8, 9", and rule 9 counts size times the least bytes
 unfoldable pub countAt : TConfiguration → ℕ → List ℕ → ℕ → Answer ℤ
 countAt c least s at =
     andThen (sizeAt s at) λ size next.

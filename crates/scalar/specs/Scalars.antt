@@ -11,6 +11,7 @@ use Rattle.scalar.specs.declared.Scalar.the-variants as S
 use Rattle.scalar.specs.declared.ScalarRead.{ScalarRead}
 use Rattle.scalar.specs.declared.ScalarRead.the-variants as Scalar-is
 
+-- a type that is no scalar kind
 unfoldable pub wrongAt : List ℕ → ℕ → Answer Scalar
 wrongAt s at = entry s at (refused 12 at)
 

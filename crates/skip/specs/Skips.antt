@@ -14,10 +14,12 @@ abbrev pub toldSkipped : Skipped → Outcome
 toldSkipped (Skip.Passed c d n) = ended (c .at) n
 toldSkipped (Skip.Refused x n) = cut-off (kindNumber (x .kind)) (x .place) n
 
+-- "The depth returned is the depth given": where it passes, the struct depth is as it was
 abbrev pub HandsOn : ℕ → Skipped → Type 0
 HandsOn sd (Skip.Passed c d n) = d ≡ sd
 HandsOn sd (Skip.Refused x n) = Unit
 
+-- the promise of the public skip
 pub record SkipSays (c : TConfiguration) (s : List ℕ) (at d sd : ℕ) (t : TType) (r : Skipped) : Type 0 where
   pub answers : SkipAnswers c s at d sd t (toldSkipped r)
   pub hands : HandsOn sd r

@@ -1,4 +1,4 @@
--- What the skip's answers tell.
+-- What the answers of the skip's inner walk tell; `toldSkipped` is in Skips.
 use Rattle.wire.specs.Refusals.{kindNumber}
 use Rattle.tree.specs.Answers.{Outcome, ended, cut-off}
 use Rattle.skip.specs.declared.value.Walked.{Walked}

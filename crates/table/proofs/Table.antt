@@ -25,7 +25,7 @@ use Rattle.text.specs.Texts.{span, sizeAt, limitedAt, sizedAt, stringAt}
 use Rattle.text.proofs.Texts as texts
 use Rattle.read.specs.Headers.{typeAt, fieldAt, countAt, listAt}
 use Rattle.nesting.specs.Structs.{structBeginAt}
-use Rattle.message.specs.Messages.{messageTypeAt, namedAt, versionedAt, unversionedAt, messageAt}
+use Rattle.message.specs.Messages.{messageTypeAt, sequenceAt, versionedAt, unversionedAt, messageAt}
 use Rattle.tree.specs.Answers.{Outcome, SkipAnswers, Stands, IsCut}
 use Rattle.tree.proofs.Only.{skip-only}
 use Rattle.tree.proofs.Steps as steps
@@ -103,11 +103,11 @@ unfolding sizedAt limitedAt sizeAt numberAt itemAt big within refuseIf andThen
 negative = steps.own-refused defaultLimits (0xFF ∷ 0xFF ∷ 0xFF ∷ 0xFF ∷ []) 0 64 0 Sh.Text 6 0 (λ z. omega arith) refl
 
 pub every-case : Every table
-unfolding messageAt versionedAt unversionedAt messageTypeAt namedAt frameAt sizedAt limitedAt sizeAt numberAt itemAt stayAt within refuseIf andThen big bytesOf fieldOutput writeAt laid
+unfolding messageAt versionedAt unversionedAt messageTypeAt sequenceAt frameAt sizedAt limitedAt sizeAt numberAt itemAt stayAt within refuseIf andThen big bytesOf fieldOutput writeAt laid
 every-case = (
-  (ap (λ (m : Answer Span). andThen m λ name next. namedAt name M.Call versioned next) (sym string-after-version), refl),
+  (ap (λ (m : Answer Span). andThen m λ name next. sequenceAt name M.Call versioned next) (sym string-after-version), refl),
   (
-    (ap (λ (m : Answer Span). andThen m λ name typed. andThen (messageTypeAt unversioned typed) λ t next. namedAt name t unversioned next) (sym string-first), refl),
+    (ap (λ (m : Answer Span). andThen m λ name typed. andThen (messageTypeAt unversioned typed) λ t next. sequenceAt name t unversioned next) (sym string-first), refl),
     (
       (refl, refl),
       (

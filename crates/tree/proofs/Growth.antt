@@ -3,6 +3,7 @@
 use Prim.Native.Nat.{ℕ, _+_, _-_, _*_, _≤_}
 use mathlib.Core.Path.{_≡_, refl, sym, ap, subst, _∙_}
 use mathlib.Core.Bool.{Bool, true, false, cond}
+use mathlib.Core.Logic.{_⊎_, inl, inr}
 use mathlib.Core.List.{List, [], _++_, append-nil}
 use lib.IntN.{ℤ, pos, natAbs}
 use lib.Signed.{ltZ}
@@ -12,7 +13,7 @@ use lib.Seq.{take-append-le, drop-append-le}
 use mir.Syntax.{w16, w32}
 use mir.Val.{toZ}
 use native.Mathlib.Omega.{arith}
-use borrow.Author.Tests.{le-ltb, ltb-false, ne-eqb, eqb-false}
+use borrow.Author.Tests.{le-ltb, ltb-false, eq-eqb, ne-eqb, eqb-false}
 use Rattle.wire.specs.Answer.{Answer, gives, refused, refuseIf, andThen, judged, within, itemAt}
 use Rattle.codes.specs.Codes.{isStop, leastSize}
 use Rattle.codes.specs.declared.TType.{TType}
@@ -24,7 +25,7 @@ use Rattle.number.specs.Reads.{numberAt, byteAt, i16At, i32At}
 use Rattle.config.specs.Limits.{above, reached, Raised, Roomier}
 use Rattle.config.specs.declared.limit.Limit.{Limit}
 use Rattle.config.specs.declared.configuration.TConfiguration.{TConfiguration}
-use Rattle.config.proofs.Room.{still-within, still-below}
+use Rattle.config.proofs.Room.{still-within, still-below, reached-later}
 use Rattle.text.specs.Texts.{sizeAt, sizedAt, bytesAt, limitedAt}
 use Rattle.text.proofs.Texts.{limited-is}
 use Rattle.read.specs.Headers.{typeAt, field, fieldAt, countAt, listAt, mapAt}
@@ -52,6 +53,20 @@ module _ (K : ℕ → Type 0) where
       }
   grows-if false true k at rest rest' f t g = clash (cc (f refl))
   grows-if false false k at rest rest' f t g = g refl
+
+  -- two tests with one number: where the first no longer holds, the second does
+  grows-either : {A : Type 0} (b b' c : Bool) (k at : ℕ) (rest : Answer A) → (b ≡ false → b' ≡ false) → (K k → b ≡ true → b' ≡ false → c ≡ true)
+      → Grows K (refuseIf b k at (refuseIf c k at rest)) (refuseIf b' k at (refuseIf c k at rest))
+  unfolding refuseIf
+  grows-either true true c k at rest f t = grows-same _
+  grows-either true false true k at rest f t = grows-same _
+  grows-either true false false k at rest f t =
+      record {
+        given = λ v q e. clash (cc);
+        kept = λ n p h e. let same : n ≡ k = cc in clash (cc (t (subst K same h) refl refl));
+      }
+  grows-either false true c k at rest f t = clash (cc (f refl))
+  grows-either false false c k at rest f t = grows-same _
 
   -- a test against a limit that was raised or removed, of which a refusal says that it was kept
   grows-limit : {A : Type 0} (n : ℕ) (l l' : Limit) (k at : ℕ) (rest rest' : Answer A) → Raised l l' → (K k → l ≡ l') → Grows K rest rest'
@@ -136,6 +151,11 @@ size-onward s at v q e =
     let same : q ≡ a .place = cc (b .gave) in
     omega (arith, i .end, i .room)
 
+-- an 11 whose limit is not reached below 65,535 comes at that depth
+by-cap : (sd : ℕ) (o w : Limit) → (o ≡ w) ⊎ (reached 65534 o ≡ false) → reached sd o ≡ true → reached sd w ≡ false → sd ≤ 65535 → eqb sd 65535 ≡ true
+by-cap sd o w (inl e) t u h = clash (cc (sym t ∙ ap (reached sd) e ∙ u))
+by-cap sd o w (inr f) t u h = eq-eqb sd 65535 (omega (arith, reached-later 65534 sd o f t))
+
 -- limits raised or removed, the depth raised, and bytes appended
 module _ (old new : TConfiguration) (r : Roomier old new) (d e : ℕ) (more : d ≤ e) (s x : List ℕ) where
   abbrev K : ℕ → Type 0
@@ -187,8 +207,8 @@ module _ (old new : TConfiguration) (r : Roomier old new) (d e : ℕ) (more : d 
       (refuseIf (ltb 65535 sd) 20 at (refuseIf (reached sd w) 11 at last))
       (λ f. le-ltb (length (s ++ x)) at (omega arith)) (λ k f. clash (cc (le-ltb (length s) at h))) (λ f.
       grows-if K (ltb 65535 sd) (ltb 65535 sd) 20 at (refuseIf (reached sd o) 11 at last) (refuseIf (reached sd w) 11 at last) (λ g. g) (λ k g. g) (λ g.
-      grows-if K (reached sd o) (reached sd w) 11 at last last (still-below sd o w (r .depth)) (λ k t. ap (reached sd) (sym (k .structs refl)) ∙ t) (λ t.
-      grows-same K last)))
+      grows-either K (reached sd o) (reached sd w) (eqb sd 65535) 11 at (gives (sd + 1) at) (still-below sd o w (r .depth))
+      (λ k t u. by-cap sd o w (k .structs refl) t u (ltb-false 65535 sd g))))
 
   shape-grows : (sd : ℕ) (sh : Shape) (at : ℕ) → at ≤ length s → Grows K (shapeOwn old sd sh s at) (shapeOwn new sd sh (s ++ x) at)
   shape-grows sd (Sh.Fixed w) at h = within-grows K s x (λ k. k .short refl) at w h

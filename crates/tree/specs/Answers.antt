@@ -19,7 +19,7 @@ use Rattle.nesting.specs.Structs.{depthEntry, structBeginAt}
 use Rattle.tree.specs.Part.{Part}
 use Rattle.tree.specs.Tree.{Tree, Fields, Trees, Pairs, layout, fieldsLayout, treesLayout, pairsLayout, valuesOf, fieldsValues, treesValues, pairsValues, countOf, pairsOf, Fits, FieldsFit, TreesFit, PairsFit}
 
--- What a value is refused by itself, before a value in it begins: "depth 0 is 10; Stop, Void and Utf7 are 12; a scalar or a UUID passes its
+-- The refusals that are a value's own, before any value in it begins: "depth 0 is 10; Stop, Void and Utf7 are 12; a scalar or a UUID passes its
 -- bytes; a string its length and body, no UTF-8 check; a struct does the struct begin …; a container reads its header …"
 abbrev pub shapeOwn : TConfiguration → ℕ → Shape → List ℕ → ℕ → Answer Unit
 shapeOwn c sd (Sh.Fixed n) s at = within s at n
@@ -154,6 +154,7 @@ Answers c s at d sd sh (cut-off n p count) = IsCut c s at d sd sh n p count
 abbrev pub skipEntry : ℕ → ℕ → List ℕ → ℕ → Answer Unit
 skipEntry d sd s at = depthEntry sd s at (refuseIf (ltb 127 d) 20 at (gives tt at))
 
+-- where the entry refuses, that and count 0 is all; else the value answers
 abbrev pub AfterEntry : Answer Unit → TConfiguration → List ℕ → ℕ → ℕ → ℕ → Shape → Outcome → Type 0
 AfterEntry (refused n p) c s at d sd sh x = x ≡ cut-off n p 0
 AfterEntry (gives u q) c s at d sd sh x = Answers c s at d sd sh x

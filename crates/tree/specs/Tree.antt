@@ -106,7 +106,7 @@ pub record TextFits (c : TConfiguration) (n : ℕ) : Type 0 where
   pub not-negative : n < 2147483648
   pub string : above n (c .«max_string_size») ≡ false
 
--- a container of n elements: "then 6, 8, 9", by rule 9 "size times the least element size must not exceed the message limit"
+-- a container of n elements: "Then 6, 8, 9", by rule 9 "size times the least element size must not exceed the message limit"
 pub record SizeFits (c : TConfiguration) (least n : ℕ) : Type 0 where
   pub not-negative : n < 2147483648
   pub container : above n (c .«max_container_size») ≡ false
@@ -117,6 +117,7 @@ pub record SizeFits (c : TConfiguration) (least n : ℕ) : Type 0 where
 pub record ScalarFits (d : ℕ) (sh : Shape) (b : List ℕ) : Type 0 where
   pub deep : 0 < d
   pub shape : sh ≡ Sh.Fixed (length b)
+  -- true of every type's width; said so that the count's bound holds for any shape
   pub some : 0 < length b
 
 pub record StringFits (c : TConfiguration) (d : ℕ) (sh : Shape) (b : List ℕ) : Type 0 where

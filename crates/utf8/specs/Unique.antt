@@ -1,4 +1,4 @@
--- A text is characters in one way only, so the place that `valid_up_to` answers is the only one that its contract allows. Assumes nothing.
+-- A text is characters in one way only, so only one place is as `ValidUpTo` says. Assumes nothing.
 use Prim.Native.Nat.{ℕ, _<_, _≤_, zero-le}
 use mathlib.Core.Path.{_≡_, refl, sym, _∙_, ap}
 use mathlib.Core.Bool.{cond}

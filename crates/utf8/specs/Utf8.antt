@@ -21,7 +21,7 @@ pub data Text : List ℕ → Type 0 where
   empty : Text []
   more : {p c l : List ℕ} → Text p → Char c → l ≡ p ++ c → Text l
 
--- what an answer says of a claim
+-- a bool that decides a claim
 abbrev pub Says : Bool → Type 0 → Type 0
 Says true P = P
 Says false P = P → ⊥

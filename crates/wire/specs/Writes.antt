@@ -9,7 +9,7 @@ use Rattle.wire.specs.Answer.{Answer, gives, refused, refuseIf, andThen,
 use Rattle.wire.specs.Refusals.{toldMoved}
 use Rattle.wire.specs.declared.cursor.Moved.{Moved}
 
--- "room is asked for the call's whole output at once, and 15 is given exactly when it needs more bytes than remain": of n bytes, w from a place on
+-- "room is asked for the call's whole output at once, and 15 is given exactly when it needs more bytes than remain": n is the buffer's length, w the bytes wanted from the place on
 unfoldable pub roomFor : ℕ → ℕ → ℕ → Answer Unit
 roomFor n at w = refuseIf (ltb n at) 2 at (refuseIf (ltb (n - at) w) 15 at (gives tt (at + w)))
 

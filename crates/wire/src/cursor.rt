@@ -55,7 +55,8 @@ impl Cursor {
         }
         Moved::To(self)
     }
-    // Past an output of so many bytes, in a buffer of so many: every write starts here.
+
+    // Past an output of so many bytes, in a buffer of so many: every write asks for its room here.
     pub fn room(self, len: usize, size: usize) -> Moved
         ensures { λ r. ⌜ toldMoved r ≡ roomFor len (self .at) size ⌝ }
     {

@@ -1,5 +1,5 @@
--- The bytes that each writer puts down, or the fault of its own that keeps it from it. "Checks: 2, 20, 16, 17, 13, 11 or 14, 15": 2 and 15 are
--- `writeAt`'s, 20, 11 and 14 those of struct begin and end, which put down nothing.
+-- What bytes, strings and names put down, or the fault of their own that keeps them from it. "Checks: 2, 20, 16, 17, 13, 11 or 14, 15": 2 and 15
+-- are `writeAt`'s, 17 a field's and a map's (write_headers), 20, 11 and 14 those of struct begin and end, which put down nothing.
 use Prim.Native.Nat.{ℕ}
 use mathlib.Core.Bool.{Bool, true, false}
 use mathlib.Core.List.{List}

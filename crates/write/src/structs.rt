@@ -3,8 +3,7 @@ use config::configuration::TConfiguration;
 use nesting::DepthRead;
 use wire::cursor::Cursor;
 ghost use mathlib.Core.Path.{_≡_};
-ghost use Rattle.nesting.specs.Structs.{structBeginAt, structEndAt};
-ghost use Rattle.nesting.specs.Structs.{toldDepth};
+ghost use Rattle.nesting.specs.Structs.{structBeginAt, structEndAt, toldDepth};
 
 pub fn write_struct_begin(
     out: &[u8],

@@ -59,7 +59,7 @@ low16 n = toZ w16 (n % 65536)
 abbrev pub low32 : ℕ → ℤ
 low32 n = toZ w32 (n % 4294967296)
 
--- of a number, or of a text, into a buffer at a place
+-- a write of a number, or of a text, into a buffer at a place
 abbrev pub putWrite : Put → ℕ → List ℕ → List ℕ → ℕ → Answer (List ℕ)
 putWrite U.Stop n text out at = putAt (typeByte T.Stop ∷ []) out at
 putWrite U.Byte n text out at = putAt (n % 256 ∷ []) out at
