@@ -17,12 +17,12 @@ use Rattle.codes.specs.declared.Typed.the-variants as Type-of
 use Rattle.number.specs.BigEndian.{bytesOf}
 use Rattle.number.proofs.Widths.{length-bytesOf}
 use Rattle.config.specs.Limits.{defaultLimits}
-use Rattle.tree.specs.Answers.{Outcome, skipEntry}
+use Rattle.tree.specs.Answers.{Outcome, cut-off, skipEntry, AfterEntry}
 use Rattle.tree.proofs.Only.{skip-only}
-use Rattle.host.specs.Host.{rowOf, filled, UnknownAfter, ByType, HostAnswers, ByLength, Hosted}
+use Rattle.host.specs.Host.{rowOf, filled, ByType, HostAnswers, ByLength, Hosted}
 
-pub unknown-as : (s : List ℕ) (at d : ℕ) (m : Answer Unit) (x : Outcome) → skipEntry d 0 s at ≡ m → UnknownAfter m at x → ByType Type-of.Unknown s at d x
-unknown-as s at d m x e a = subst (λ (n : Answer Unit). UnknownAfter n at x) (sym e) a
+pub unknown-as : (s : List ℕ) (at d : ℕ) (m : Answer Unit) (x : Outcome) → skipEntry d 0 s at ≡ m → AfterEntry m x (x ≡ cut-off 5 at 0) → ByType Type-of.Unknown s at d x
+unknown-as s at d m x e a = subst (λ (n : Answer Unit). AfterEntry n x (x ≡ cut-off 5 at 0)) (sym e) a
 
 pub by-type : (s : List ℕ) (at d b : ℕ) (k : Typed) (x : Outcome) → typeOf b ≡ k → ByType k s at d x → HostAnswers s at d b x
 by-type s at d b k x e a = subst (λ (n : Typed). ByType n s at d x) (sym e) a
@@ -40,7 +40,7 @@ host-only : (s : List ℕ) (at d : ℕ) (k : Typed) (x y : Outcome) → ByType k
 host-only s at d (Type-of.Known t) x y a b = skip-only defaultLimits s at d 0 t x y a b
 host-only s at d Type-of.Unknown x y a b = go (skipEntry d 0 s at) a b
   where
-    go : (m : Answer Unit) → UnknownAfter m at x → UnknownAfter m at y → x ≡ y
+    go : (m : Answer Unit) → AfterEntry m x (x ≡ cut-off 5 at 0) → AfterEntry m y (y ≡ cut-off 5 at 0) → x ≡ y
     go (refused n p) a b = a ∙ sym b
     go (gives u q) a b = a ∙ sym b
 

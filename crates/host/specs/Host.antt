@@ -5,13 +5,12 @@ use mathlib.Core.Bool.{Bool, true, false}
 use mathlib.Core.List.{List, _++_}
 use lib.Dec.{ltb}
 use lib.ListN.{length, drop}
-use Rattle.wire.specs.Answer.{Answer, gives, refused}
 use Rattle.codes.specs.Codes.{typeOf}
 use Rattle.codes.specs.declared.Typed.{Typed}
 use Rattle.codes.specs.declared.Typed.the-variants as Type-of
 use Rattle.number.specs.BigEndian.{bytesOf}
 use Rattle.config.specs.Limits.{defaultLimits}
-use Rattle.tree.specs.Answers.{Outcome, ended, cut-off, skipEntry, SkipAnswers}
+use Rattle.tree.specs.Answers.{Outcome, ended, cut-off, skipEntry, AfterEntry, SkipAnswers}
 use Rattle.host.specs.declared.Row.{Row}
 
 -- "refusal or 0, end or place, count"
@@ -23,15 +22,10 @@ rowOf (cut-off k p n) = record { number = k; place = p; count = n }
 abbrev pub filled : Row → List ℕ → List ℕ
 filled w old = (bytesOf 8 (w .number) ++ bytesOf 8 (w .place) ++ bytesOf 8 (w .count)) ++ drop 24 old
 
--- "An unknown type byte is 5 at the start, count 0, after 2 and 20"
-abbrev pub UnknownAfter : Answer Unit → ℕ → Outcome → Type 0
-UnknownAfter (refused n p) at x = x ≡ cut-off n p 0
-UnknownAfter (gives u q) at x = x ≡ cut-off 5 at 0
-
--- "Default limits, struct depth 0"
+-- "Default limits, struct depth 0"; "An unknown type byte is 5 at the start, count 0, after 2 and 20"
 abbrev pub ByType : Typed → List ℕ → ℕ → ℕ → Outcome → Type 0
 ByType (Type-of.Known t) s at d x = SkipAnswers defaultLimits s at d 0 t x
-ByType Type-of.Unknown s at d x = UnknownAfter (skipEntry d 0 s at) at x
+ByType Type-of.Unknown s at d x = AfterEntry (skipEntry d 0 s at) x (x ≡ cut-off 5 at 0)
 
 abbrev pub HostAnswers : List ℕ → ℕ → ℕ → ℕ → Outcome → Type 0
 HostAnswers s at d b x = ByType (typeOf b) s at d x

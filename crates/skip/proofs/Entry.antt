@@ -35,8 +35,8 @@ module _ (s : List ℕ) (at d sd : ℕ) where
 
 -- what the entry answers decides which claim is made
 module _ (c : TConfiguration) (s : List ℕ) (at d sd : ℕ) (t : TType) where
-  after : (m : Answer Unit) (x : Outcome) → skipEntry d sd s at ≡ m → AfterEntry m c s at d sd (shapeOf t) x → SkipAnswers c s at d sd t x
-  after m x e a = subst (λ (n : Answer Unit). AfterEntry n c s at d sd (shapeOf t) x) (sym e) a
+  after : (m : Answer Unit) (x : Outcome) → skipEntry d sd s at ≡ m → AfterEntry m x (Answers c s at d sd (shapeOf t) x) → SkipAnswers c s at d sd t x
+  after m x e a = subst (λ (n : Answer Unit). AfterEntry n x (Answers c s at d sd (shapeOf t) x)) (sym e) a
 
   -- a refusal at the entry, with count 0
   pub barred : (k : Kind) → skipEntry d sd s at ≡ refused (kindNumber k) at → SkipSays c s at d sd t (refusedAtEntry k at)

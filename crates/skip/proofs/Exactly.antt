@@ -25,7 +25,7 @@ use Rattle.skip.proofs.Entry.{entry-beyond, entry-depth, entry-struct-d
 -- with the start not past the end and both depths allowed
 module _ (c : TConfiguration) (s : List ℕ) (at d sd : ℕ) (t : TType) (h : at ≤ length s) (i : d ≤ 127) (j : sd ≤ 65535) where
   pub enter : (x : Outcome) → SkipAnswers c s at d sd t x → Answers c s at d sd (shapeOf t) x
-  enter x a = subst (λ (m : Answer Unit). AfterEntry m c s at d sd (shapeOf t) x) (entered s at d sd h j i) a
+  enter x a = subst (λ (m : Answer Unit). AfterEntry m x (Answers c s at d sd (shapeOf t) x)) (entered s at d sd h j i) a
 
   module _ (r : Skipped) (says : SkipSays c s at d sd t r) where
     pub accepts : (e n : ℕ) → (toldSkipped r ≡ ended e n) ↔ Stands c s at d sd (shapeOf t) e n
@@ -44,7 +44,7 @@ module _ (c : TConfiguration) (s : List ℕ) (at d sd : ℕ) (t : TType) (h : at
 module _ (c : TConfiguration) (s : List ℕ) (at d sd : ℕ) (t : TType) where
   -- an entry that refuses is all that is answered
   all : {k p : ℕ} (x : Outcome) → skipEntry d sd s at ≡ refused k p → SkipAnswers c s at d sd t x → x ≡ cut-off k p 0
-  all x e a = subst (λ (m : Answer Unit). AfterEntry m c s at d sd (shapeOf t) x) e a
+  all x e a = subst (λ (m : Answer Unit). AfterEntry m x (Answers c s at d sd (shapeOf t) x)) e a
 
   -- 2 and 20 apart, the entry lets in
   pub by-entry : {P : Type 0} (x : Outcome) → SkipAnswers c s at d sd t x → ((k : ℕ) → x ≡ cut-off k at 0 → P) → (at ≤ length s → d ≤ 127 → sd ≤ 65535 → P) → P

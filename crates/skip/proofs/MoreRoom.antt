@@ -11,7 +11,7 @@ use Rattle.codes.specs.Shapes.{shapeOf}
 use Rattle.codes.specs.declared.TType.{TType}
 use Rattle.config.specs.Limits.{Roomier}
 use Rattle.config.specs.declared.configuration.TConfiguration.{TConfiguration}
-use Rattle.tree.specs.Answers.{ended, cut-off, AfterEntry}
+use Rattle.tree.specs.Answers.{ended, cut-off, Answers, AfterEntry}
 use Rattle.tree.specs.Room.{Unnamed}
 use Rattle.tree.proofs.Heads.{clash}
 use Rattle.tree.proofs.MoreRoom.{stands-more, is-cut-more}
@@ -30,7 +30,7 @@ module _ (old new : TConfiguration) (room : Roomier old new) (s x : List ℕ) (a
   too-deep : 65535 < sd → (c : TConfiguration) (y : List ℕ) (k : ℕ) (r : Skipped) → at ≤ length y → SkipSays c y at k sd t r
       → toldSkipped r ≡ cut-off 20 at 0
   too-deep g c y k r l says =
-      subst (λ (n : Answer Unit). AfterEntry n c y at k sd (shapeOf t) (toldSkipped r)) (entry-struct-depth y at k sd l g) (says .answers)
+      subst (λ (n : Answer Unit). AfterEntry n (toldSkipped r) (Answers c y at k sd (shapeOf t) (toldSkipped r))) (entry-struct-depth y at k sd l g) (says .answers)
 
   -- an accept stays, with the same end and count
   pub accept-stays : (end n : ℕ) → toldSkipped a ≡ ended end n → toldSkipped b ≡ ended end n

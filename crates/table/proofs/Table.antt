@@ -6,7 +6,7 @@ use lib.IntN.{pos}
 use native.Mathlib.Omega.{arith}
 use borrow.Author.Needs.{needs}
 use Rattle.wire.specs.Answer.{Answer, gives, refuseIf, andThen, stayAt, within, itemAt}
-use Rattle.wire.specs.Writes.{laid, writeAt}
+use Rattle.wire.specs.Writes.{roomFor, laid, writeAt}
 use Rattle.codes.specs.declared.shape.Shape.the-variants as Sh
 use Rattle.codes.proofs.Tables.{Each, entry}
 use Rattle.codes.specs.declared.TType.{TType}
@@ -103,7 +103,7 @@ unfolding sizedAt limitedAt sizeAt numberAt itemAt big within refuseIf andThen
 negative = steps.own-refused defaultLimits (0xFF ∷ 0xFF ∷ 0xFF ∷ 0xFF ∷ []) 0 64 0 Sh.Text 6 0 (λ z. omega arith) refl
 
 pub every-case : Every table
-unfolding messageAt versionedAt unversionedAt messageTypeAt sequenceAt frameAt sizedAt limitedAt sizeAt numberAt itemAt stayAt within refuseIf andThen big bytesOf fieldOutput writeAt laid
+unfolding messageAt versionedAt unversionedAt messageTypeAt sequenceAt frameAt sizedAt limitedAt sizeAt numberAt itemAt stayAt within refuseIf andThen big bytesOf fieldOutput writeAt roomFor laid
 every-case = (
   (ap (λ (m : Answer Span). andThen m λ name next. sequenceAt name M.Call versioned next) (sym string-after-version), refl),
   (

@@ -284,6 +284,6 @@ module _ (c : TConfiguration) (s : List ℕ) where
   pub skip-only : (at d sd : ℕ) (t : TType) (x y : Outcome) → SkipAnswers c s at d sd t x → SkipAnswers c s at d sd t y → x ≡ y
   skip-only at d sd t x y = go (skipEntry d sd s at)
     where
-      go : (m : Answer Unit) → AfterEntry m c s at d sd (shapeOf t) x → AfterEntry m c s at d sd (shapeOf t) y → x ≡ y
+      go : (m : Answer Unit) → AfterEntry m x (Answers c s at d sd (shapeOf t) x) → AfterEntry m y (Answers c s at d sd (shapeOf t) y) → x ≡ y
       go (refused n p) a b = a ∙ sym b
       go (gives u q) a b = only at d sd (shapeOf t) x y a b

@@ -154,10 +154,10 @@ Answers c s at d sd sh (cut-off n p count) = IsCut c s at d sd sh n p count
 abbrev pub skipEntry : ℕ → ℕ → List ℕ → ℕ → Answer Unit
 skipEntry d sd s at = depthEntry sd s at (refuseIf (ltb 127 d) 20 at (gives tt at))
 
--- where the entry refuses, that and count 0 is all; else the value answers
-abbrev pub AfterEntry : Answer Unit → TConfiguration → List ℕ → ℕ → ℕ → ℕ → Shape → Outcome → Type 0
-AfterEntry (refused n p) c s at d sd sh x = x ≡ cut-off n p 0
-AfterEntry (gives u q) c s at d sd sh x = Answers c s at d sd sh x
+-- where the entry refuses, that is what is told, with count 0; else the rest holds of it
+abbrev pub AfterEntry : Answer Unit → Outcome → Type 0 → Type 0
+AfterEntry (refused n p) x rest = x ≡ cut-off n p 0
+AfterEntry (gives u q) x rest = rest
 
 -- "a value of that type stands" at a place: a tree, "with the conditions of 2, 11 and 20" (11 is a struct's own, in `Fits`)
 pub record StandsHere (c : TConfiguration) (s : List ℕ) (at d sd : ℕ) (t : TType) (e n : ℕ) : Type 0 where
@@ -168,4 +168,4 @@ pub record StandsHere (c : TConfiguration) (s : List ℕ) (at d sd : ℕ) (t : T
 
 -- what the skip of a type answers
 abbrev pub SkipAnswers : TConfiguration → List ℕ → ℕ → ℕ → ℕ → TType → Outcome → Type 0
-SkipAnswers c s at d sd t x = AfterEntry (skipEntry d sd s at) c s at d sd (shapeOf t) x
+SkipAnswers c s at d sd t x = AfterEntry (skipEntry d sd s at) x (Answers c s at d sd (shapeOf t) x)

@@ -5,7 +5,7 @@ use mathlib.Core.List.{List, [], _++_, append-nil, append-assoc}
 use Prim.Native.Nat.{ℕ, _+_, _-_, _<_, _≤_}
 use native.Mathlib.Nat.{le-of-eq, zero-add, add-zero}
 use native.Mathlib.Omega.{arith}
-use borrow.Author.Tests.{lt-ltb, le-ltb, ltb-false}
+use borrow.Author.Tests.{lt-ltb, le-ltb, ltb-true, ltb-false}
 use borrow.Rule.Slice.PartMut.{putMid}
 use lib.Dec.{ltb}
 use lib.ListN.{length, take, drop, length-append, length-take, length-drop, drop-of-length-le, take-append-drop}
@@ -58,14 +58,6 @@ pub wrote : {new old : List ℕ} {c : Cursor} {write : Answer (List ℕ)} → gi
 unfolding left
 wrote e = record { answer = rw (← e); buffer = rw (← e) }
 
--- a refusal of two tests is theirs, whatever would follow them
-refused-first : {A B : Type 0} (b c : Bool) (k j at q : ℕ) {n p : ℕ} (v : A) (w : B) → refused n p ≡ refuseIf b k at (refuseIf c j at (gives v q))
-    → refused n p ≡ refuseIf b k at (refuseIf c j at (gives w q))
-unfolding refuseIf
-refused-first true c k j at q v w e = cc
-refused-first false true k j at q v w e = cc
-refused-first false false k j at q v w e = let z : _≡_ {A = ℕ} 0 1 = cc in absurd (omega arith)
-
 module _ (output : Answer (List ℕ)) (out : List ℕ) (at : ℕ) where
   pub write-beyond : length out < at → refused 2 at ≡ writeAt output out at
   unfolding writeAt refuseIf
@@ -79,12 +71,16 @@ module _ (output : Answer (List ℕ)) (out : List ℕ) (at : ℕ) where
   -- room was asked for w bytes, the length of the output
   module _ {bs : List ℕ} {q : ℕ} (w : ℕ) (e : gives bs q ≡ output) (l : length bs ≡ w) where
     pub write-no-room : {n p : ℕ} → refused n p ≡ roomFor (length out) at w → refused n p ≡ writeAt output out at
-    unfolding writeAt roomFor andThen
-    write-no-room f = rw (← e, l) (refused-first (ltb (length out) at) (ltb (length out - at) w) 2 15 at (at + w) tt (laid bs out at) f)
+    unfolding writeAt andThen refuseIf
+    write-no-room {n} {p} f = go (ltb (length out) at) refl
+      where
+        go : (b : Bool) → ltb (length out) at ≡ b → refused n p ≡ refuseIf b 2 at (andThen output λ cs _. andThen (roomFor (length out) at (length cs)) λ _ next. gives (laid cs out at) next)
+        go true g = cc (f ∙ sym (no-place (length out) at w (ltb-true (length out) at g)))
+        go false g = rw (← e, l, ← f)
 
     pub writes : {next : ℕ} {new : List ℕ} → gives tt next ≡ roomFor (length out) at w → new ≡ laid bs out at → gives new next ≡ writeAt output out at
     unfolding writeAt andThen refuseIf
-    writes f g = let i = has-room (length out) at w f in rw (← e, l, i .inside, i .enough, i .after, g)
+    writes f g = let i = has-room (length out) at w f in rw (← e, l, i .inside, ← f, g)
 
 -- a write that was accepted had no fault of its own: the bytes that it put down
 pub record Put (output : Answer (List ℕ)) : Type 0 where

@@ -30,8 +30,11 @@ abbrev pub judged : {A : Type 0} → Answer A → Answer Unit
 judged m = mapped (λ _. tt) m
 
 -- every entry: 2 where the place is beyond the length, then the rest
+abbrev pub entryOf : {A : Type 0} → ℕ → ℕ → Answer A → Answer A
+entryOf n at rest = refuseIf (ltb n at) 2 at rest
+
 abbrev pub entry : {A : Type 0} → List ℕ → ℕ → Answer A → Answer A
-entry s at rest = refuseIf (ltb (length s) at) 2 at rest
+entry s at rest = entryOf (length s) at rest
 
 -- no byte is taken: the ends of messages, fields, lists, sets and maps
 unfoldable pub stayAt : List ℕ → ℕ → Answer Unit

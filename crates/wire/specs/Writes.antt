@@ -5,13 +5,13 @@ use mathlib.Core.Bool.{cond}
 use mathlib.Core.List.{List, _++_}
 use lib.ListN.{length, take, drop}
 use lib.Dec.{ltb}
-use Rattle.wire.specs.Answer.{Answer, gives, refused, refuseIf, andThen, judged, entry}
+use Rattle.wire.specs.Answer.{Answer, gives, refused, refuseIf, andThen, judged, entry, entryOf}
 use Rattle.wire.specs.Refusals.{toldMoved}
 use Rattle.wire.specs.declared.cursor.Moved.{Moved}
 
 -- "room is asked for the call's whole output at once, and 15 is given exactly when it needs more bytes than remain": n is the buffer's length, w the bytes wanted from the place on
 unfoldable pub roomFor : ℕ → ℕ → ℕ → Answer Unit
-roomFor n at w = refuseIf (ltb n at) 2 at (refuseIf (ltb (n - at) w) 15 at (gives tt (at + w)))
+roomFor n at w = entryOf n at (refuseIf (ltb (n - at) w) 15 at (gives tt (at + w)))
 
 -- "Bytes outside that output stay as they were": a buffer with bs from a place on
 unfoldable pub laid : List ℕ → List ℕ → ℕ → List ℕ
@@ -22,8 +22,8 @@ unfoldable pub writeAt : Answer (List ℕ) → List ℕ → ℕ → Answer (List
 writeAt output out at =
     entry out at
     (andThen output λ bs _.
-    refuseIf (ltb (length out - at) (length bs)) 15 at
-    (gives (laid bs out at) (at + length bs)))
+    andThen (roomFor (length out) at (length bs)) λ _ next.
+    gives (laid bs out at) next)
 
 -- a write with no fault of its own
 abbrev pub putAt : List ℕ → List ℕ → ℕ → Answer (List ℕ)

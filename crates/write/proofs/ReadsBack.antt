@@ -6,7 +6,6 @@ use mathlib.Core.Bool.{Bool, true, false, not}
 use mathlib.Core.List.{List, [], _∷_, append-assoc}
 use native.Mathlib.Nat.{mod-eq-of-lt, add-sub-cancel-left}
 use native.Mathlib.Omega.{arith}
-use borrow.Author.Tests.{ltb-false}
 use lib.Dec.{T, ltb, eqb}
 use lib.Ieee.{Float, binary64, fits, ofBits, toBits}
 use lib.Ieee.Bits.{ofBits-toBits, toBits-lt}
@@ -16,9 +15,9 @@ use lib.Seq.{take-append-seam, drop-at}
 use mir.Syntax.{Width, w8, w16, w32, w64}
 use mir.Val.{SFits, bits, toZ, ofZ}
 use Rattle.wire.specs.Answer.{Answer, gives, andThen}
-use Rattle.wire.specs.Writes.{laid, writeAt, putAt}
-use Rattle.wire.proofs.Answers.{passed}
-use Rattle.wire.proofs.Writes.{put-down, length-laid}
+use Rattle.wire.specs.Writes.{roomFor, laid, writeAt, putAt}
+use Rattle.wire.proofs.Answers.{passed, went}
+use Rattle.wire.proofs.Writes.{has-room, room-fits, put-down, length-laid}
 use Rattle.number.specs.BigEndian.{big, bytesOf}
 use Rattle.number.specs.Reads.{numberAt, byteAt, boolAt, i8At, i16At, i32At, i64At, doubleAt}
 use Rattle.number.proofs.Widths.{written, signed-written, length-bytesOf}
@@ -50,10 +49,10 @@ pub stands : (output : Answer (List ℕ)) (out : List ℕ) (at : ℕ) {bs new : 
 unfolding writeAt andThen
 stands output out at {bs} {new} {q} {next} e w =
     let a = passed (ltb (length out) at) 2 at _ (rw (← e) at w) in
-    let b = passed (ltb (length out - at) (length bs)) 15 at (gives (laid bs out at) (at + length bs)) (a .gave) in
-    let room : at + length bs ≤ length out = omega (arith, ltb-false (length out) at (a .test), ltb-false (length out - at) (length bs) (b .test)) in
-    let buffer : new ≡ laid bs out at = cc (b .gave) in
-    let place : next ≡ at + length bs = cc (b .gave) in
+    let b = went (roomFor (length out) at (length bs)) _ (a .gave) in
+    let room = room-fits (length out) at (length bs) (b .gave) in
+    let buffer : new ≡ laid bs out at = cc (b .on) in
+    let place : next ≡ at + length bs = cc (b .on, has-room (length out) at (length bs) (b .gave) .after) in
     rw (buffer, place) (laid-part bs out at room)
 
 -- a text or a UUID that was read, and that its bytes are those that were written
