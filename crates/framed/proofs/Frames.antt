@@ -14,6 +14,7 @@ use Rattle.text.specs.Texts.{sizedAt}
 use Rattle.text.proofs.Texts.{Lies, sized-lies}
 use Rattle.tree.proofs.Heads.{clash}
 use Rattle.text.specs.declared.Span.{Span}
+use Rattle.text.specs.declared.Body.the-variants as Body-of
 use Rattle.write.specs.Outputs.{bytesOutput}
 use Rattle.framed.specs.Frames.{Next, frame, end, frameAt, frameOutput}
 use Rattle.framed.specs.Told.{toldFrame}
@@ -26,11 +27,11 @@ module _ (limit : Limit) (s : List ℕ) (at : ℕ) where
   at-end e = simp (eq-eqb _ _ e)
 
   module _ (h : at ≡ length s → ⊥) where
-    pub no-frame : {n p : ℕ} → refused n p ≡ sizedAt 18 limit s at → refused n p ≡ frameAt limit s at
+    pub no-frame : {n p : ℕ} → refused n p ≡ sizedAt Body-of.Frame limit s at → refused n p ≡ frameAt limit s at
     unfolding frameAt
     no-frame e = simp (ne-eqb _ _ h, ← e)
 
-    pub a-frame : {p : Span} {next : ℕ} → gives p next ≡ sizedAt 18 limit s at → gives (frame p) next ≡ frameAt limit s at
+    pub a-frame : {p : Span} {next : ℕ} → gives p next ≡ sizedAt Body-of.Frame limit s at → gives (frame p) next ≡ frameAt limit s at
     unfolding frameAt
     a-frame e = simp (ne-eqb _ _ h, ← e)
 
@@ -43,9 +44,9 @@ payload-lies limit s at {p} {q} = go (eqb at (length s))
     of-frame (gives v r) e = cc
     of-frame (refused n r) e = clash (cc)
 
-    go : (b : Bool) → gives (frame p) q ≡ cond b (gives end at) (mapped frame (sizedAt 18 limit s at)) → Lies (length s) p
+    go : (b : Bool) → gives (frame p) q ≡ cond b (gives end at) (mapped frame (sizedAt Body-of.Frame limit s at)) → Lies (length s) p
     go true e = clash (cc)
-    go false e = sized-lies 18 limit s at (of-frame _ e)
+    go false e = sized-lies Body-of.Frame limit s at (of-frame _ e)
 
 module _ (payload : List ℕ) (at : ℕ) where
   pub empty : length payload ≡ 0 → gives [] at ≡ frameOutput payload at

@@ -12,6 +12,7 @@ use Rattle.config.specs.declared.limit.Limit.{Limit}
 use Rattle.text.specs.Texts.{bytesIn}
 use Rattle.text.specs.declared.Span.{Span}
 use Rattle.text.proofs.Layouts.{length-sized}
+use Rattle.text.specs.declared.Body.the-variants as Body-of
 use Rattle.tree.proofs.Parts.{part-length}
 use Rattle.wire.proofs.Writes.{put-down}
 use Rattle.write.proofs.Outputs.{short, is-short}
@@ -31,7 +32,7 @@ frame-back limit payload out at some below e =
     let f = full payload at (λ z. omega arith) in
     let h = is-short payload at (put-down (frameOutput payload at) out at e .gave ∙ sym f) in
     let p = stands _ out at (short payload at h ∙ f) e in
-    let found = sized-found limit payload below p 18 h in
+    let found = sized-found limit payload below p Body-of.Frame h in
     let l = part-length p in
     record {
       place = found .place;

@@ -8,6 +8,7 @@ use Rattle.wire.specs.Answer.{Answer, gives, refused, mapped}
 use Rattle.config.specs.declared.limit.Limit.{Limit}
 use Rattle.text.specs.Texts.{sizedAt, bytesIn}
 use Rattle.text.specs.declared.Span.{Span}
+use Rattle.text.specs.declared.Body.the-variants as Body-of
 use Rattle.write.specs.Outputs.{bytesOutput}
 
 -- a frame, by where its payload stands, or that no frame follows
@@ -15,11 +16,11 @@ pub data Next : Type 0 where
   frame : Span → Next
   end : Next
 
--- "no byte left is End (added). Else header (1), 6, 18, body (1)": a size, then as many bytes, with 18 for the limit
+-- "no byte left is End (added). Else header (1), 6, 18, body (1)": a size, then as many bytes
 unfoldable pub frameAt : Limit → List ℕ → ℕ → Answer Next
 frameAt limit s at =
     cond (eqb at (length s)) (gives end at)
-    (mapped frame (sizedAt 18 limit s at))
+    (mapped frame (sizedAt Body-of.Frame limit s at))
 
 -- the payload's bytes in what was read: none at the end, and none where the frame is refused
 abbrev pub payloadIn : List ℕ → Answer Next → List ℕ

@@ -9,7 +9,7 @@ ghost use mathlib.Core.Path.{_≡_};
 ghost use Rattle.config.specs.Limits.{defaultLimits};
 ghost use Rattle.read.specs.Headers.{fieldAt};
 ghost use Rattle.read.specs.Told.{toldField};
-ghost use Rattle.skip.specs.Skips.{SkipSays};
+ghost use Rattle.skip.specs.Skips.{SkipSays, defaultDepth};
 
 pub struct Reader<'a> {
     pub payload: &'a [u8],
@@ -24,7 +24,7 @@ fn field_at(payload: &[u8], at: usize) -> FieldRead
 }
 
 fn skip_at(payload: &[u8], at: usize, field_type: TType) -> Skipped
-    ensures { λ r. ⌜ SkipSays defaultLimits (now (payload .entry)) at 64 0 «field_type» r ⌝ }
+    ensures { λ r. ⌜ SkipSays defaultLimits (now (payload .entry)) at defaultDepth 0 «field_type» r ⌝ }
 {
     skip::till_depth::skip(
         payload,
@@ -58,14 +58,14 @@ pub fn read_field_begin<'a>(reader: Reader<'a>) -> FieldRead
 
 // The value where it stands, stepped over under the default limits and depth.
 pub fn skip<'a>(reader: Reader<'a>, field_type: TType) -> Skipped
-    ensures { λ r. ⌜ SkipSays defaultLimits (now (reader .entry .payload)) (reader .entry .at) 64 0 «field_type» r ⌝ }
+    ensures { λ r. ⌜ SkipSays defaultLimits (now (reader .entry .payload)) (reader .entry .at) defaultDepth 0 «field_type» r ⌝ }
 {
     skip_at(reader.payload, reader.at, field_type)
 }
 
 // With plain parameters, for callers that hold no record.
 pub fn skip_from(payload: &[u8], place: usize, field_type: TType) -> Skipped
-    ensures { λ r. ⌜ SkipSays defaultLimits (now (payload .entry)) place 64 0 «field_type» r ⌝ }
+    ensures { λ r. ⌜ SkipSays defaultLimits (now (payload .entry)) place defaultDepth 0 «field_type» r ⌝ }
 {
     skip(new(payload, place), field_type)
 }

@@ -16,6 +16,7 @@ use Rattle.config.specs.declared.limit.Limit.{Limit}
 use Rattle.text.specs.Texts.{limitedAt, bytesAt}
 use Rattle.text.proofs.Texts as texts
 use Rattle.text.specs.declared.Span.{Span}
+use Rattle.text.specs.declared.Body.the-variants as Body-of
 use Rattle.tree.specs.Answers.{Outcome, cut-off, leafOutcome, Answers}
 use Rattle.tree.proofs.Heads.{clash}
 use Rattle.tree.proofs.Steps as steps
@@ -50,12 +51,12 @@ module _ (c : TConfiguration) (s : List ℕ) (at d sd : ℕ) where
       go (refused n p) f = steps.own-refused c s at d sd Sh.Text n p h (ap judged (sym f))
 
 -- after its size, a text is so many bytes
-pub text-onward : (limit : Limit) (s : List ℕ) (at : ℕ) {v : ℤ} {body : ℕ} → gives v body ≡ limitedAt 7 limit s at → within s body (natAbs v) ≡ judged (bytesAt limit s at)
-text-onward limit s at {v} {body} e = go (within s body (natAbs v)) refl
+pub text-onward : (limit : Limit) (s : List ℕ) (at : ℕ) {v : ℤ} {first : ℕ} → gives v first ≡ limitedAt Body-of.Text limit s at → within s first (natAbs v) ≡ judged (bytesAt limit s at)
+text-onward limit s at {v} {first} e = go (within s first (natAbs v)) refl
   where
-    go : (m : Answer Unit) → within s body (natAbs v) ≡ m → m ≡ judged (bytesAt limit s at)
-    go (gives u q) f = ap judged (texts.whole 7 limit s at e (sym f))
-    go (refused n p) f = ap judged (texts.cut 7 limit s at e (sym f))
+    go : (m : Answer Unit) → within s first (natAbs v) ≡ m → m ≡ judged (bytesAt limit s at)
+    go (gives u q) f = ap judged (texts.whole Body-of.Text limit s at e (sym f))
+    go (refused n p) f = ap judged (texts.cut Body-of.Text limit s at e (sym f))
 
 -- a shape of fixed bytes has some, and few
 pub record Width (w : ℕ) : Type 0 where

@@ -24,6 +24,10 @@ pub record SkipSays (c : TConfiguration) (s : List ℕ) (at d sd : ℕ) (t : TTy
   pub answers : SkipAnswers c s at d sd t (toldSkipped r)
   pub hands : HandsOn sd r
 
+-- "The default skip depth is 64"
+abbrev pub defaultDepth : ℕ
+defaultDepth = 64
+
 -- a refusal before any value has begun
 abbrev pub refusedAtEntry : Kind → ℕ → Skipped
 refusedAtEntry k p = Skip.Refused (record { kind = k; place = p }) 0

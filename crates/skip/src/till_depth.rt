@@ -6,7 +6,7 @@ use wire::cursor::Cursor;
 use wire::refusal::Kind;
 use wire::refusal::Refusal;
 ghost use mathlib.Core.Path.{_≡_};
-ghost use Rattle.skip.specs.Skips.{SkipSays, refusedAtEntry};
+ghost use Rattle.skip.specs.Skips.{SkipSays, defaultDepth, refusedAtEntry};
 
 // The depth that `skip` starts with.
 pub const MAXIMUM_SKIP_DEPTH: usize = 64;
@@ -70,7 +70,7 @@ pub fn skip(
     struct_depth: usize,
     config: TConfiguration,
 ) -> Skipped
-    ensures { λ r. ⌜ SkipSays config (now (bytes .entry)) (cursor .at) 64 «struct_depth» «field_type» r ⌝ }
+    ensures { λ r. ⌜ SkipSays config (now (bytes .entry)) (cursor .at) defaultDepth «struct_depth» «field_type» r ⌝ }
 {
     skip_till_depth(
         bytes,

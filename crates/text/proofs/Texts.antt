@@ -18,7 +18,9 @@ use Rattle.config.specs.declared.limit.Limit.{Limit}
 use Rattle.wire.proofs.Within.{inside}
 use Rattle.utf8.specs.UpTo.{upTo}
 use Rattle.text.specs.declared.Span.{Span}
-use Rattle.text.specs.Texts.{span, bytesIn, sizeAt, limitedAt, sizedAt, bytesAt, stringAt, uuidAt, partIn, partOf}
+use Rattle.text.specs.declared.Body.{Body}
+use Rattle.text.specs.declared.Body.the-variants as Body-of
+use Rattle.text.specs.Texts.{span, bytesIn, sizeAt, overNumber, limitedAt, sizedAt, bytesAt, stringAt, uuidAt, partIn, partOf}
 
 plain : (v : ℤ) → ltZ v (pos 0) ≡ false → ofZ w32 v ≡ natAbs v
 plain (pos n) h = refl
@@ -47,17 +49,17 @@ module _ (s : List ℕ) (at : ℕ) where
       let same : v ≡ a .value = cc (b .gave) in
       plain v (rw same (b .test))
 
-module _ (over : ℕ) (limit : Limit) (s : List ℕ) (at : ℕ) where
-  pub unlimited : {n p : ℕ} → refused n p ≡ sizeAt s at → refused n p ≡ limitedAt over limit s at
+module _ (body : Body) (limit : Limit) (s : List ℕ) (at : ℕ) where
+  pub unlimited : {n p : ℕ} → refused n p ≡ sizeAt s at → refused n p ≡ limitedAt body limit s at
   unfolding limitedAt
   unlimited e = first-fault _ e
 
   module _ {v : ℤ} {next : ℕ} (e : gives v next ≡ sizeAt s at) where
-    pub too-long : above (natAbs v) limit ≡ true → refused over at ≡ limitedAt over limit s at
+    pub too-long : above (natAbs v) limit ≡ true → refused (overNumber body) at ≡ limitedAt body limit s at
     unfolding limitedAt andThen refuseIf
     too-long h = rw (← e, h)
 
-    pub limited : above (natAbs v) limit ≡ false → gives v next ≡ limitedAt over limit s at
+    pub limited : above (natAbs v) limit ≡ false → gives v next ≡ limitedAt body limit s at
     unfolding limitedAt andThen refuseIf
     limited h = rw (← e, h)
 
@@ -66,24 +68,24 @@ module _ (over : ℕ) (limit : Limit) (s : List ℕ) (at : ℕ) where
     pub size : gives v next ≡ sizeAt s at
     pub test : above (natAbs v) limit ≡ false
 
-  pub limited-is : {v : ℤ} {next : ℕ} → gives v next ≡ limitedAt over limit s at → Limited v next
+  pub limited-is : {v : ℤ} {next : ℕ} → gives v next ≡ limitedAt body limit s at → Limited v next
   unfolding limitedAt
   limited-is {v} {next} e =
       let a = went (sizeAt s at) _ e in
-      let b = passed (above (natAbs (a .value)) limit) over at (gives (a .value) (a .place)) (a .on) in
+      let b = passed (above (natAbs (a .value)) limit) (overNumber body) at (gives (a .value) (a .place)) (a .on) in
       let same : a .value ≡ v = cc (b .gave) in
       record { size = b .gave ∙ a .gave; test = rw same at (b .test) }
 
-  pub unsized : {n p : ℕ} → refused n p ≡ limitedAt over limit s at → refused n p ≡ sizedAt over limit s at
+  pub unsized : {n p : ℕ} → refused n p ≡ limitedAt body limit s at → refused n p ≡ sizedAt body limit s at
   unfolding sizedAt
   unsized e = first-fault _ e
 
-  module _ {v : ℤ} {body : ℕ} (e : gives v body ≡ limitedAt over limit s at) where
-    pub cut : {n p : ℕ} → refused n p ≡ within s body (natAbs v) → refused n p ≡ sizedAt over limit s at
+  module _ {v : ℤ} {first : ℕ} (e : gives v first ≡ limitedAt body limit s at) where
+    pub cut : {n p : ℕ} → refused n p ≡ within s first (natAbs v) → refused n p ≡ sizedAt body limit s at
     unfolding sizedAt andThen
     cut f = rw (← e, ← f)
 
-    pub whole : {end : ℕ} → gives tt end ≡ within s body (natAbs v) → gives (span body end) end ≡ sizedAt over limit s at
+    pub whole : {end : ℕ} → gives tt end ≡ within s first (natAbs v) → gives (span first end) end ≡ sizedAt body limit s at
     unfolding sizedAt andThen
     whole f = rw (← e, ← f)
 
@@ -96,10 +98,10 @@ pub record Lies (n : ℕ) (p : Span) : Type 0 where
 lies : (s : List ℕ) (at w : ℕ) {next : ℕ} → gives tt next ≡ within s at w → Lies (length s) (span at next)
 lies s at w e = let i = inside s at w e in record { ordered = omega arith; inside-them = omega arith }
 
-pub sized-lies : (over : ℕ) (limit : Limit) (s : List ℕ) (at : ℕ) {p : Span} {q : ℕ} → gives p q ≡ sizedAt over limit s at → Lies (length s) p
+pub sized-lies : (body : Body) (limit : Limit) (s : List ℕ) (at : ℕ) {p : Span} {q : ℕ} → gives p q ≡ sizedAt body limit s at → Lies (length s) p
 unfolding sizedAt
-sized-lies over limit s at {p} {q} e =
-    let a = went (limitedAt over limit s at) _ e in
+sized-lies body limit s at {p} {q} e =
+    let a = went (limitedAt body limit s at) _ e in
     let c = went (within s (a .place) (natAbs (a .value))) _ (a .on) in
     let same : p ≡ span (a .place) (c .place) = cc (c .on) in
     rw same (lies s (a .place) (natAbs (a .value)) (c .gave))
@@ -123,7 +125,7 @@ unfolding stringAt
 string-lies limit s at e =
     let a = went (bytesAt limit s at) _ e in
     let b = passed _ 13 (a .value .start) (gives (a .value) (a .place)) (a .on) in
-    sized-lies 7 limit s at (b .gave ∙ a .gave)
+    sized-lies Body-of.Text limit s at (b .gave ∙ a .gave)
 
 module _ (s : List ℕ) (at : ℕ) where
   pub uuid-cut : {n p : ℕ} → refused n p ≡ within s at 16 → refused n p ≡ uuidAt s at

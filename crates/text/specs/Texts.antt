@@ -34,26 +34,26 @@ abbrev pub overNumber : Body → ℕ
 overNumber Body-of.Text = 7
 overNumber Body-of.Frame = 18
 
--- a size within its limit: above, it is refused by the number given
-unfoldable pub limitedAt : ℕ → Limit → List ℕ → ℕ → Answer ℤ
-limitedAt over limit s at =
+-- a size within its limit, for what it counts the bytes of
+unfoldable pub limitedAt : Body → Limit → List ℕ → ℕ → Answer ℤ
+limitedAt body limit s at =
     andThen (sizeAt s at) λ size next.
-    refuseIf (above (natAbs size) limit) over at (gives size next)
+    refuseIf (above (natAbs size) limit) (overNumber body) at (gives size next)
 
 -- such a size, then as many bytes; what is given is where they stand
-unfoldable pub sizedAt : ℕ → Limit → List ℕ → ℕ → Answer Span
-sizedAt over limit s at =
-    andThen (limitedAt over limit s at) λ size body.
-    andThen (within s body (natAbs size)) λ _ end.
-    gives (span body end) end
+unfoldable pub sizedAt : Body → Limit → List ℕ → ℕ → Answer Span
+sizedAt body limit s at =
+    andThen (limitedAt body limit s at) λ size first.
+    andThen (within s first (natAbs size)) λ _ end.
+    gives (span first end) end
 
 -- the bytes that stand in a span
 abbrev pub bytesIn : List ℕ → Span → List ℕ
 bytesIn s p = take (p .end - p .start) (drop (p .start) s)
 
--- bytes: no more than that, with 7 for the limit
+-- bytes: no more than that
 abbrev pub bytesAt : Limit → List ℕ → ℕ → Answer Span
-bytesAt = sizedAt 7
+bytesAt = sizedAt Body-of.Text
 
 -- names and strings: then 13, at the text's first byte, where it is not UTF-8 to its end
 unfoldable pub stringAt : Limit → List ℕ → ℕ → Answer Span

@@ -59,7 +59,7 @@ pub fn read_size(bytes: &[u8], cursor: Cursor) -> I32Read
 
 // A size within its limit.
 pub fn read_limited(bytes: &[u8], cursor: Cursor, limit: Limit, body: Body) -> I32Read
-    ensures { λ r. ⌜ toldI32 r ≡ limitedAt (overNumber body) limit (now (bytes .entry)) (cursor .at) ⌝ }
+    ensures { λ r. ⌜ toldI32 r ≡ limitedAt body limit (now (bytes .entry)) (cursor .at) ⌝ }
 {
     let at = cursor.at;
     match read_size(bytes, cursor) {
@@ -78,7 +78,7 @@ pub fn read_limited(bytes: &[u8], cursor: Cursor, limit: Limit, body: Body) -> I
 
 // Such a size, then as many bytes.
 pub fn read_sized(bytes: &[u8], cursor: Cursor, limit: Limit, body: Body) -> TextRead
-    ensures { λ r. ⌜ toldText r ≡ sizedAt (overNumber body) limit (now (bytes .entry)) (cursor .at) ⌝ }
+    ensures { λ r. ⌜ toldText r ≡ sizedAt body limit (now (bytes .entry)) (cursor .at) ⌝ }
 {
     match read_limited(bytes, cursor, limit, body) {
         I32Read::Value(size, first) => {

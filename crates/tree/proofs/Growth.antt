@@ -28,6 +28,7 @@ use Rattle.config.specs.declared.configuration.TConfiguration.{TConfiguration}
 use Rattle.config.proofs.Room.{still-within, still-below, reached-later}
 use Rattle.text.specs.Texts.{sizeAt, sizedAt, bytesAt, limitedAt}
 use Rattle.text.proofs.Texts.{limited-is}
+use Rattle.text.specs.declared.Body.the-variants as Body-of
 use Rattle.read.specs.Headers.{typeAt, field, fieldAt, countAt, listAt, mapAt}
 use Rattle.nesting.specs.Structs.{structBeginAt}
 use Rattle.tree.specs.Answers.{shapeOwn, ownAt}
@@ -164,12 +165,12 @@ module _ (old new : TConfiguration) (r : Roomier old new) (d e : ℕ) (more : d 
   text-grows : (at : ℕ) → at ≤ length s → Grows K (bytesAt (old .«max_string_size») s at) (bytesAt (new .«max_string_size») (s ++ x) at)
   unfolding sizedAt limitedAt
   text-grows at h =
-      grows-then K (limitedAt 7 (old .«max_string_size») s at) (limitedAt 7 (new .«max_string_size») (s ++ x) at) _ _
+      grows-then K (limitedAt Body-of.Text (old .«max_string_size») s at) (limitedAt Body-of.Text (new .«max_string_size») (s ++ x) at) _ _
       (grows-then K (sizeAt s at) (sizeAt (s ++ x) at) _ _ (size-grows K s x (λ k. k .short refl) at h) (λ v q f.
       grows-limit K (natAbs v) (old .«max_string_size») (new .«max_string_size») 7 at _ _ (r .string) (λ k. k .string refl) (grows-same K (gives v q))))
       (λ v q f.
       grows-then K (within s q (natAbs v)) (within (s ++ x) q (natAbs v)) _ _
-      (within-grows K s x (λ k. k .short refl) q (natAbs v) (size-onward s at v q (limited-is 7 (old .«max_string_size») s at f .size))) (λ u p g. grows-same K _))
+      (within-grows K s x (λ k. k .short refl) q (natAbs v) (size-onward s at v q (limited-is Body-of.Text (old .«max_string_size») s at f .size))) (λ u p g. grows-same K _))
 
   count-grows : (least at : ℕ) → at ≤ length s → Grows K (countAt old least s at) (countAt new least (s ++ x) at)
   unfolding countAt

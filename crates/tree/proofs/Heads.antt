@@ -30,6 +30,7 @@ use Rattle.config.specs.declared.configuration.TConfiguration.{TConfiguration}
 use Rattle.text.specs.Texts.{sizeAt, sizedAt, bytesAt, limitedAt}
 use Rattle.text.proofs.Texts.{limited-is}
 use Rattle.text.specs.declared.Span.{Span}
+use Rattle.text.specs.declared.Body.the-variants as Body-of
 use Rattle.codes.specs.declared.TType.the-variants as T
 use Rattle.read.specs.declared.container.TListIdentifier.{TListIdentifier}
 use Rattle.read.specs.declared.container.TMapIdentifier.{TMapIdentifier}
@@ -37,7 +38,7 @@ use Rattle.read.specs.declared.field.TFieldIdentifier.{TFieldIdentifier}
 use Rattle.read.specs.Headers.{known, typeAt, field, fieldAt, countAt, list, listAt, map, mapAt}
 use Rattle.nesting.specs.Structs.{structBeginAt}
 use Rattle.tree.specs.Part.{Part}
-use Rattle.tree.specs.Tree.{Reads, TextFits, SizeFits}
+use Rattle.tree.specs.Tree.{Reads, LengthFits, SizeFits}
 use Rattle.tree.proofs.Parts.{part-run, part-to, part-is, part-join, part-length}
 
 -- 0 is not 1: what `cc` derives from two constructors that are equal
@@ -138,14 +139,14 @@ size-is s at o {v} {next} e =
 pub record TextIs (c : TConfiguration) (s : List ℕ) (at e : ℕ) : Type 0 where
   pub body : List ℕ
   pub part : Part s at e (bytesOf 4 (length body) ++ body)
-  pub fits : TextFits c (length body)
+  pub fits : LengthFits c (length body)
 
 pub text-is : (c : TConfiguration) (s : List ℕ) (at : ℕ) → Octets s → {p : Span} {e : ℕ} → gives p e ≡ bytesAt (c .«max_string_size») s at → TextIs c s at e
 unfolding sizedAt
 text-is c s at o {p} {e} h =
-    let a = went (limitedAt 7 (c .«max_string_size») s at) _ h in
+    let a = went (limitedAt Body-of.Text (c .«max_string_size») s at) _ h in
     let n = natAbs (a .value) in
-    let b = limited-is 7 (c .«max_string_size») s at (a .gave) in
+    let b = limited-is Body-of.Text (c .«max_string_size») s at (a .gave) in
     let w = went (within s (a .place) n) _ (a .on) in
     let i = inside s (a .place) n (w .gave) in
     let z = size-is s at o (b .size) in

@@ -12,7 +12,7 @@ use Rattle.codes.specs.declared.shape.Shape.{Shape}
 use Rattle.config.specs.Limits.{Roomier}
 use Rattle.config.specs.declared.configuration.TConfiguration.{TConfiguration}
 use Rattle.config.proofs.Room.{still-within, still-below}
-use Rattle.tree.specs.Tree.{Tree, Fields, Trees, Pairs, scalar, text, struct, list, map, nil, snoc, none, then, empty, with, TextFits, SizeFits, Fits, FieldsFit, TreesFit, PairsFit}
+use Rattle.tree.specs.Tree.{Tree, Fields, Trees, Pairs, scalar, text, struct, list, map, nil, snoc, none, then, empty, with, LengthFits, SizeFits, Fits, FieldsFit, TreesFit, PairsFit}
 use Rattle.tree.specs.Answers.{Cut, here, head, field-value, element, key, value, OpenStruct, OpenMap, Faults, Stands, IsCut}
 use Rattle.tree.specs.Room.{Unnamed}
 use Rattle.tree.proofs.Parts.{part-longer}
@@ -20,7 +20,7 @@ use Rattle.tree.proofs.Heads.{field-is}
 use Rattle.tree.proofs.Growth.{field-grows, list-grows, map-grows, struct-grows, own-grows}
 
 module _ (old new : TConfiguration) (r : Roomier old new) where
-  text-more : (n : ℕ) → TextFits old n → TextFits new n
+  text-more : (n : ℕ) → LengthFits old n → LengthFits new n
   text-more n f = record { not-negative = f .not-negative; string = still-within n (old .«max_string_size») (new .«max_string_size») (r .string) (f .string) }
 
   size-more : (least n : ℕ) → SizeFits old least n → SizeFits new least n
@@ -116,8 +116,8 @@ module _ (old new : TConfiguration) (r : Roomier old new) where
           next = next;
         }
 
-    map-open : (ps : Pairs) {rest rest' : TType → TType → ℕ → Type 0} (f : OpenMap old s at d sh sd ps rest) → rest' (f .key) (f .value) (f .mid)
-        → OpenMap new (s ++ x) at e sh sd ps rest'
+    map-open : (ps : Pairs) {rest rest' : TType → TType → ℕ → Type 0} (f : OpenMap old s at d sd sh ps rest) → rest' (f .key) (f .value) (f .mid)
+        → OpenMap new (s ++ x) at e sd sh ps rest'
     map-open ps f next =
         record {
           deep = omega (arith, f .deep);

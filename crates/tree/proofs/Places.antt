@@ -20,8 +20,10 @@ use Rattle.wire.proofs.Answers.{passed, went}
 use Rattle.number.specs.Reads.{numberAt, byteAt, i16At, i32At}
 use Rattle.config.specs.declared.limit.Limit.{Limit}
 use Rattle.config.specs.declared.configuration.TConfiguration.{TConfiguration}
-use Rattle.text.specs.Texts.{sizeAt, sizedAt, limitedAt}
+use Rattle.text.specs.Texts.{sizeAt, overNumber, sizedAt, limitedAt}
 use Rattle.text.proofs.Texts.{limited-is}
+use Rattle.text.specs.declared.Body.{Body}
+use Rattle.text.specs.declared.Body.the-variants as Body-of
 use Rattle.read.specs.Headers.{known, typeAt, field, fieldAt, countAt, listAt, mapAt}
 use Rattle.nesting.specs.Structs.{structBeginAt}
 use Rattle.tree.specs.Answers.{shapeOwn, ownAt}
@@ -96,13 +98,13 @@ module _ (s : List ℕ) where
       let same : q ≡ a .place = cc (b .gave) in
       omega (arith, i .end)
 
-  sized-later : (k : ℕ) (l : Limit) (at : ℕ) → Later at (sizedAt k l s at)
+  sized-later : (body : Body) (l : Limit) (at : ℕ) → Later at (sizedAt body l s at)
   unfolding sizedAt limitedAt
-  sized-later k l at =
-      then-later at (limitedAt k l s at) _
-      (then-later at (sizeAt s at) _ (size-later at) (λ v q e. if-later _ k at _ (gives-later v q at)))
+  sized-later body l at =
+      then-later at (limitedAt body l s at) _
+      (then-later at (sizeAt s at) _ (size-later at) (λ v q e. if-later _ (overNumber body) at _ (gives-later v q at)))
       (λ v q e.
-      behind (size-onward at v q (limited-is k l s at e .size)) (then-later q (within s q (natAbs v)) _ (within-later q (natAbs v)) (λ u r f. gives-later _ r q)))
+      behind (size-onward at v q (limited-is body l s at e .size)) (then-later q (within s q (natAbs v)) _ (within-later q (natAbs v)) (λ u r f. gives-later _ r q)))
 
   module _ (c : TConfiguration) where
     count-later : (least at : ℕ) → Later at (countAt c least s at)
@@ -129,7 +131,7 @@ module _ (s : List ℕ) where
 
     shape-later : (sd : ℕ) (sh : Shape) (at : ℕ) → Later at (shapeOwn c sd sh s at)
     shape-later sd (Sh.Fixed n) at = within-later at n
-    shape-later sd Sh.Text at = judged-later at _ (sized-later 7 (c .«max_string_size») at)
+    shape-later sd Sh.Text at = judged-later at _ (sized-later Body-of.Text (c .«max_string_size») at)
     shape-later sd Sh.Fields at = judged-later at _ (struct-later sd at)
     shape-later sd Sh.Items at = judged-later at _ (list-later at)
     shape-later sd Sh.Pairs at = judged-later at _ (map-later at)

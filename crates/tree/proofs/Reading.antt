@@ -24,12 +24,14 @@ use Rattle.config.specs.declared.limit.Limit.{Limit}
 use Rattle.config.specs.declared.configuration.TConfiguration.{TConfiguration}
 use Rattle.text.specs.Texts.{span, sizedLayout, sizeAt, sizedAt, bytesAt}
 use Rattle.text.proofs.Texts as texts
+use Rattle.text.specs.declared.Body.{Body}
+use Rattle.text.specs.declared.Body.the-variants as Body-of
 use Rattle.read.specs.Headers.{typeAt, field, fieldAt, countAt, list, listAt, map, mapAt}
 use Rattle.nesting.specs.Structs.{structBeginAt}
 use Rattle.read.proofs.Headers as headers
 use Rattle.nesting.proofs.Structs as structs
 use Rattle.tree.specs.Part.{Part}
-use Rattle.tree.specs.Tree.{Reads, TextFits, SizeFits}
+use Rattle.tree.specs.Tree.{Reads, LengthFits, SizeFits}
 use Rattle.tree.proofs.Parts.{part-length, part-split}
 
 -- so many bytes that are a part are there
@@ -63,19 +65,19 @@ size-reads {s} {at} {e} n h p =
     texts.size s at read (le-ltb n 0 zero-le)
 
 -- a size and its bytes, with any number for the limit
-pub sized-reads : {s : List ℕ} {at e : ℕ} (over : ℕ) (limit : Limit) (b : List ℕ) → length b < 2147483648 → above (length b) limit ≡ false
-    → Part s at e (sizedLayout b) → gives (span (at + 4) e) e ≡ sizedAt over limit s at
-sized-reads {s} {at} {e} over limit b f g p =
+pub sized-reads : {s : List ℕ} {at e : ℕ} (body : Body) (limit : Limit) (b : List ℕ) → length b < 2147483648 → above (length b) limit ≡ false
+    → Part s at e (sizedLayout b) → gives (span (at + 4) e) e ≡ sizedAt body limit s at
+sized-reads {s} {at} {e} body limit b f g p =
     let sp = part-split (bytesOf 4 (length b)) b p in
     let l = part-length (sp .left) in
     let mid : sp .mid ≡ at + 4 = omega (arith, length-bytesOf 4 (length b), l) in
-    let size = texts.limited over limit s at (size-reads (length b) f (sp .left)) g in
+    let size = texts.limited body limit s at (size-reads (length b) f (sp .left)) g in
     ap (λ (k : ℕ). gives (span k e) e) (sym mid)
-    ∙ texts.whole over limit s at size (part-within b (length b) refl (sp .right))
+    ∙ texts.whole body limit s at size (part-within b (length b) refl (sp .right))
 
-pub text-reads : {s : List ℕ} {at e : ℕ} (c : TConfiguration) (b : List ℕ) → TextFits c (length b) → Part s at e (sizedLayout b)
+pub text-reads : {s : List ℕ} {at e : ℕ} (c : TConfiguration) (b : List ℕ) → LengthFits c (length b) → Part s at e (sizedLayout b)
     → gives (span (at + 4) e) e ≡ bytesAt (c .«max_string_size») s at
-text-reads c b f p = sized-reads 7 (c .«max_string_size») b (f .not-negative) (f .string) p
+text-reads c b f p = sized-reads Body-of.Text (c .«max_string_size») b (f .not-negative) (f .string) p
 
 pub count-reads : {s : List ℕ} {at e : ℕ} (c : TConfiguration) (least n : ℕ) → SizeFits c least n → Part s at e (bytesOf 4 n)
     → gives (pos n) e ≡ countAt c least s at

@@ -287,7 +287,7 @@ module _ (c : TConfiguration) (s : List ℕ) (at d sd : ℕ) where
 
   -- it is open where the loop stands
   open-map : {k v : TType} {size : ℤ} {first cur count i : ℕ} {rest : TType → TType → ℕ → Type 0} (w : MapLoop k v size first cur count i) → i < natAbs size
-      → rest k v cur → OpenMap c s at d Sh.Pairs sd (w .ps) rest
+      → rest k v cur → OpenMap c s at d sd Sh.Pairs (w .ps) rest
   open-map {k} {v} {size} {first} {cur} w q x =
       record {
         deep = w .deep;

@@ -76,7 +76,7 @@ pub record OpenField (s : List ℕ) (at : ℕ) (rest : TType → ℕ → Type 0)
   pub next : rest type first
 
 -- a list or a set that is open after some of its elements
-pub record OpenList (c : TConfiguration) (s : List ℕ) (at d : ℕ) (sh : Shape) (sd : ℕ) (ts : Trees) (rest : TType → ℕ → Type 0) : Type 0 where
+pub record OpenList (c : TConfiguration) (s : List ℕ) (at d sd : ℕ) (sh : Shape) (ts : Trees) (rest : TType → ℕ → Type 0) : Type 0 where
   pub deep : 0 < d
   pub shape : sh ≡ Sh.Items
   pub type : TType
@@ -90,7 +90,7 @@ pub record OpenList (c : TConfiguration) (s : List ℕ) (at d : ℕ) (sh : Shape
   pub next : rest type mid
 
 -- a map that is open after some of its pairs
-pub record OpenMap (c : TConfiguration) (s : List ℕ) (at d : ℕ) (sh : Shape) (sd : ℕ) (ps : Pairs) (rest : TType → TType → ℕ → Type 0) : Type 0 where
+pub record OpenMap (c : TConfiguration) (s : List ℕ) (at d sd : ℕ) (sh : Shape) (ps : Pairs) (rest : TType → TType → ℕ → Type 0) : Type 0 where
   pub deep : 0 < d
   pub shape : sh ≡ Sh.Pairs
   pub key : TType
@@ -117,10 +117,10 @@ Faults c s at d sd sh here n p = refused n p ≡ ownAt c d sd sh s at
 Faults c s at d sd sh (head fs) n p = OpenStruct c s at d sd sh fs (λ m. refused n p ≡ fieldAt s m)
 Faults c s at d sd sh (field-value fs x) n p =
     OpenStruct c s at d sd sh fs (λ m. OpenField s m (λ t q. Faults c s q (d - 1) (sd + 1) (shapeOf t) x n p))
-Faults c s at d sd sh (element ts x) n p = OpenList c s at d sh sd ts (λ t m. Faults c s m (d - 1) sd (shapeOf t) x n p)
-Faults c s at d sd sh (key ps x) n p = OpenMap c s at d sh sd ps (λ k v m. Faults c s m (d - 1) sd (shapeOf k) x n p)
+Faults c s at d sd sh (element ts x) n p = OpenList c s at d sd sh ts (λ t m. Faults c s m (d - 1) sd (shapeOf t) x n p)
+Faults c s at d sd sh (key ps x) n p = OpenMap c s at d sd sh ps (λ k v m. Faults c s m (d - 1) sd (shapeOf k) x n p)
 Faults c s at d sd sh (value ps t x) n p =
-    OpenMap c s at d sh sd ps (λ k v m. Passed c s m (d - 1) sd (shapeOf k) t (λ q. Faults c s q (d - 1) sd (shapeOf v) x n p))
+    OpenMap c s at d sd sh ps (λ k v m. Passed c s m (d - 1) sd (shapeOf k) t (λ q. Faults c s q (d - 1) sd (shapeOf v) x n p))
 
 -- Demand 2: "a value of that type stands within depth and limits, and ends where it ends", here at e; the count is the number of its values
 pub record Stands (c : TConfiguration) (s : List ℕ) (at d sd : ℕ) (sh : Shape) (e count : ℕ) : Type 0 where

@@ -102,7 +102,7 @@ abbrev pub Reads : TType → Type 0
 Reads t = typeOf (typeByte t) ≡ Type-of.Known t
 
 -- a string, "its length and body, no UTF-8 check": the length is not negative (6) and within the string limit (7)
-pub record TextFits (c : TConfiguration) (n : ℕ) : Type 0 where
+pub record LengthFits (c : TConfiguration) (n : ℕ) : Type 0 where
   pub not-negative : n < 2147483648
   pub string : above n (c .«max_string_size») ≡ false
 
@@ -120,10 +120,10 @@ pub record ScalarFits (d : ℕ) (sh : Shape) (b : List ℕ) : Type 0 where
   -- true of every type's width; said so that the count's bound holds for any shape
   pub some : 0 < length b
 
-pub record StringFits (c : TConfiguration) (d : ℕ) (sh : Shape) (b : List ℕ) : Type 0 where
+pub record TextFits (c : TConfiguration) (d : ℕ) (sh : Shape) (b : List ℕ) : Type 0 where
   pub deep : 0 < d
   pub shape : sh ≡ Sh.Text
-  pub size : TextFits c (length b)
+  pub size : LengthFits c (length b)
 
 -- "a struct does the struct begin": 11 "at depth at or above the limit, or at 65,535 whatever the limit"
 pub record StructFits (c : TConfiguration) (d sd : ℕ) (sh : Shape) (inner : Type 0) : Type 0 where
@@ -162,7 +162,7 @@ pub record FieldFits (t : TType) (id : List ℕ) (before inner : Type 0) : Type 
 unfoldable mutual
   pub Fits : TConfiguration → ℕ → ℕ → Shape → Tree → Type 0
   Fits c d sd sh (scalar b) = ScalarFits d sh b
-  Fits c d sd sh (text b) = StringFits c d sh b
+  Fits c d sd sh (text b) = TextFits c d sh b
   Fits c d sd sh (struct fs) = StructFits c d sd sh (FieldsFit c (d - 1) (sd + 1) fs)
   Fits c d sd sh (list t ts) = ListFits c d sh t (countOf ts) (TreesFit c (d - 1) sd (shapeOf t) ts)
   Fits c d sd sh (map k v ps) = MapFits c d sh k v (pairsOf ps) (PairsFit c (d - 1) sd (shapeOf k) (shapeOf v) ps)

@@ -13,8 +13,7 @@ use Rattle.wire.proofs.Writes.{put-down}
 use Rattle.utf8.specs.UpTo.{upTo}
 use Rattle.text.specs.Texts.{sizedLayout}
 use Rattle.tree.proofs.Heads.{clash}
-use Rattle.write.specs.Names.{nameChecked}
-use Rattle.write.specs.Outputs.{bytesOutput, ifName, namedOutput}
+use Rattle.write.specs.Outputs.{bytesOutput, ifName, nameChecked, namedOutput}
 
 module _ (b : List ℕ) (at : ℕ) where
   pub too-long : 2147483647 < length b → refused 16 at ≡ bytesOutput b at

@@ -26,6 +26,8 @@ use Rattle.config.specs.declared.limit.Limit.{Limit}
 use Rattle.text.specs.Texts.{span, sizedLayout, bytesIn, sizedAt, bytesAt, stringAt, uuidAt}
 use Rattle.text.specs.declared.Span.{Span}
 use Rattle.text.proofs.Texts as texts
+use Rattle.text.specs.declared.Body.{Body}
+use Rattle.text.specs.declared.Body.the-variants as Body-of
 use Rattle.tree.specs.Part.{Part}
 use Rattle.tree.proofs.Parts.{part-length, part-split}
 use Rattle.tree.proofs.Reading.{part-within, number-reads, sized-reads}
@@ -64,16 +66,16 @@ pub record Found (s b : List ℕ) (read : Answer Span) (next : ℕ) : Type 0 whe
 -- a size and its bytes within the reader's limit
 module _ {s : List ℕ} {at e : ℕ} (limit : Limit) (b : List ℕ) (below : above (length b) limit ≡ false) (p : Part s at e (sizedLayout b)) where
   -- with any number for the limit
-  pub sized-found : (over : ℕ) → length b ≤ 2147483647 → Found s b (sizedAt over limit s at) e
-  sized-found over h =
+  pub sized-found : (body : Body) → length b ≤ 2147483647 → Found s b (sizedAt body limit s at) e
+  sized-found body h =
       let sp = part-split (bytesOf 4 (length b)) b p in
       let l = part-length (sp .left) in
       let mid : sp .mid ≡ at + 4 = omega (arith, length-bytesOf 4 (length b), l) in
-      record { place = span (at + 4) e; gave = sized-reads over limit b (omega arith) below p; bytes = rw mid at (sp .right .bytes) }
+      record { place = span (at + 4) e; gave = sized-reads body limit b (omega arith) below p; bytes = rw mid at (sp .right .bytes) }
 
   pub string-found : Name b → Found s b (stringAt limit s at) e
   string-found n =
-      let t = sized-found 7 (n .short) in
+      let t = sized-found Body-of.Text (n .short) in
       record { place = t .place; gave = texts.string limit s at (t .gave) (rw (t .bytes) (n .utf8)); bytes = t .bytes }
 
 module _ (out : List ℕ) (at : ℕ) {new : List ℕ} {next : ℕ} where
@@ -128,7 +130,7 @@ module _ (out : List ℕ) (at : ℕ) {new : List ℕ} {next : ℕ} where
     pub bytes-back : gives new next ≡ writeAt (bytesOutput b at) out at → Found new b (bytesAt limit new at) next
     bytes-back e =
         let h = is-short b at (put-down (bytesOutput b at) out at e .gave) in
-        sized-found limit b below (stands _ out at (short b at h) e) 7 h
+        sized-found limit b below (stands _ out at (short b at h) e) Body-of.Text h
 
     pub string-back : gives new next ≡ writeAt (namedOutput b (sizedLayout b) at) out at → Found new b (stringAt limit new at) next
     string-back e =

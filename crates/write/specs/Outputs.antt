@@ -5,7 +5,7 @@ use mathlib.Core.Bool.{Bool, true, false}
 use mathlib.Core.List.{List}
 use lib.Dec.{ltb}
 use lib.ListN.{length}
-use Rattle.wire.specs.Answer.{Answer, gives, refuseIf}
+use Rattle.wire.specs.Answer.{Answer, gives, refuseIf, entryOf}
 use Rattle.utf8.specs.UpTo.{upTo}
 use Rattle.text.specs.Texts.{sizedLayout}
 
@@ -24,6 +24,10 @@ bytesOutput b at = unlessTooLong b at (gives (sizedLayout b) at)
 -- "Names and strings must be UTF-8": else 13, "for writers 0, counted in the name"
 abbrev pub ifName : {A : Type 0} → List ℕ → ℕ → Answer A → Answer A
 ifName name at rest = unlessTooLong name at (refuseIf (ltb (upTo name) (length name)) 13 0 rest)
+
+-- what is judged of a name before room is asked: 2 in a buffer of n bytes, then its own faults
+unfoldable pub nameChecked : ℕ → ℕ → List ℕ → Answer Unit
+nameChecked n at name = entryOf n at (ifName name at (gives tt at))
 
 -- bytes with a name among them: a string, or a message's header
 unfoldable pub namedOutput : List ℕ → List ℕ → ℕ → Answer (List ℕ)

@@ -8,8 +8,7 @@ ghost use Rattle.wire.specs.Answer.{gives, entry};
 ghost use Rattle.wire.specs.Refusals.{toldMoved};
 ghost use Rattle.wire.specs.Writes.{Wrote, putAt, writeAt};
 ghost use Rattle.text.specs.Texts.{sizedLayout};
-ghost use Rattle.write.specs.Outputs.{bytesOutput, namedOutput};
-ghost use Rattle.write.specs.Names.{nameChecked};
+ghost use Rattle.write.specs.Outputs.{bytesOutput, nameChecked, namedOutput};
 
 pub fn write_bytes(out: &mut [u8], cursor: Cursor, b: &[u8]) -> Moved
     ensures { λ r. ⌜ Wrote r (now (out .exit)) (now (out .entry)) (writeAt (bytesOutput (now (b .entry)) (cursor .at)) (now (out .entry)) (cursor .at)) ⌝ }

@@ -44,7 +44,7 @@ use denote.Triple.Walked.{says, Stays, stay-none, walkOf, goes-none, Walks, ends
 use denote.Exit.{yes}
 use denote.Triple.Clauses.{ensured, lasts}
 use Rattle.config.specs.Limits.{defaultLimits}
-use Rattle.skip.specs.Skips.{SkipSays}
+use Rattle.skip.specs.Skips.{SkipSays, defaultDepth}
 use Rattle.codes.specs.declared.TType.{TType}
 use Rattle.reader.specs.declared.Reader.{Reader}
 use Rattle.skip.specs.declared.till_depth.Skipped.{Skipped}
@@ -87,7 +87,7 @@ module _ {M : Type 1} (𝓤 : URA M) (H : Heap 𝓤) (A : Atoms 𝓤) (W : Given
   v = sliceVal (d .payload .ptr) (length (d .payload .now))
 
   abbrev Says : Skipped → Type 0
-  Says r = SkipSays defaultLimits (now (d .payload)) (d .at) 64 0 k r
+  Says r = SkipSays defaultLimits (now (d .payload)) (d .at) defaultDepth 0 k r
 
   abbrev Post : Val → SProp 𝓤
   Post = walkOf 𝓤 H A skip.ended stayed (skip.clauses 𝓤 H A mem run) .post (((κ, tt), (q, tt), tt, (d, (k, tt)), (mach ∷ [], (w ∷ [], tt))), tt)

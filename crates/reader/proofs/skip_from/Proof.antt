@@ -39,7 +39,7 @@ use denote.Triple.Walked.{says, Stays, stay-none, stay-none-slice, walkOf, goes-
 use denote.Exit.{yes}
 use denote.Triple.Clauses.{ensured, lasts}
 use Rattle.config.specs.Limits.{defaultLimits}
-use Rattle.skip.specs.Skips.{SkipSays}
+use Rattle.skip.specs.Skips.{SkipSays, defaultDepth}
 use Rattle.codes.specs.declared.TType.{TType}
 use Rattle.reader.specs.declared.Reader.{Reader}
 use Rattle.skip.specs.declared.till_depth.Skipped.{Skipped}
@@ -90,7 +90,7 @@ module _ {M : Type 1} (𝓤 : URA M) (H : Heap 𝓤) (A : Atoms 𝓤) (W : Given
   at = (v ∷ [], (vint w64 n ∷ [], (w ∷ [], tt)))
 
   abbrev Says : Skipped → Type 0
-  Says t = SkipSays defaultLimits (now s) n 64 0 k t
+  Says t = SkipSays defaultLimits (now s) n defaultDepth 0 k t
 
   -- the struct's type as a local of a body has it
   abbrev αᵉ : NamedLft
@@ -126,7 +126,7 @@ module _ {M : Type 1} (𝓤 : URA M) (H : Heap 𝓤) (A : Atoms 𝓤) (W : Given
       move ! (1 ∷ 0 ∷ []) $ fjoin ! $ move ! (1 ∷ 0 ∷ []) $ join ! $ frame ! $ done !
 
   abbrev SaysOf : Reader → Skipped → Type 0
-  SaysOf r t = SkipSays defaultLimits (now (r .payload)) (r .at) 64 0 k t
+  SaysOf r t = SkipSays defaultLimits (now (r .payload)) (r .at) defaultDepth 0 k t
 
   skip-said : (r : Reader) (t : Skipped) → ent 𝓤 (ensured 𝓤 H A skip.ended (skip.clauses 𝓤 H A mem run) (κ, tt) (r, (k, tt)) tt t) (fact 𝓤 (SaysOf r t))
   skip-said r t = exE 𝓤 _ (λ ws. snd∗ 𝓤 (sem 𝓤 H A (lasts skip.ended (κ, tt) (r, (k, tt)) ws)) (fact 𝓤 (SaysOf r t)))
@@ -134,7 +134,7 @@ module _ {M : Type 1} (𝓤 : URA M) (H : Heap 𝓤) (A : Atoms 𝓤) (W : Given
   -- the record stands where it was made to stand
   stands : (r : Reader) (t : Skipped) → (r .payload ≡ s) × (r .at ≡ n) → SaysOf r t → Says t
   stands r t e h =
-      subst (λ (x : ℕ). SkipSays defaultLimits (now s) x 64 0 k t) (e .1) (subst (λ (x : RefT (List ℕ)). SkipSays defaultLimits (now x) (r .at) 64 0 k t) (e .0) h)
+      subst (λ (x : ℕ). SkipSays defaultLimits (now s) x defaultDepth 0 k t) (e .1) (subst (λ (x : RefT (List ℕ)). SkipSays defaultLimits (now x) (r .at) defaultDepth 0 k t) (e .0) h)
 
   exits : (t : Skipped) (u : Val) → Is K.the-row k (w ∷ []) → Says t → ent 𝓤 (⋆ 𝓤 H A (‵ (S.the-row .own t (u ∷ [])) ∷ (‵ (flft κ q) ⊛ ‵ ftrue) ∷ ‵ Own ∷ [])) (Post u)
   exits t u kind e =

@@ -17,5 +17,5 @@ bytes-part-spec =
     (λ c κs. search needs)
     (λ c. search needs)
     (λ c. search needs)
-    (λ c. handed _ (sized-lies 7 _ _ _ (told-as toldText (c .before .before .span .given .1) (c .before .before .before .before .read-bytes .ensures))) (told-as toldText (c .before .before .span .given .1) (c .before .before .before .before .read-bytes .ensures)) (c .part .ensures))
+    (λ c. handed _ (sized-lies _ _ _ _ (told-as toldText (c .before .before .span .given .1) (c .before .before .before .before .read-bytes .ensures))) (told-as toldText (c .before .before .span .given .1) (c .before .before .before .before .read-bytes .ensures)) (c .part .ensures))
     (λ c. ap (partOf _) (told-as toldText (c .before .enum-told .given .1) (c .before .before .before .read-bytes .ensures))))

@@ -12,9 +12,9 @@ read-string-spec =
     (tie.spec
     (λ c κs. search needs)
     (λ c. search needs)
-    (λ c. sized-lies 7 _ _ _ (told-as toldText (c .before .span .given .1) (c .before .before .before .read-bytes .ensures)) .ordered)
-    (λ c. sized-lies 7 _ _ _ (told-as toldText (c .before .span .given .1) (c .before .before .before .read-bytes .ensures)) .ordered)
-    (λ c. sized-lies 7 _ _ _ (told-as toldText (c .before .span .given .1) (c .before .before .before .read-bytes .ensures)) .inside-them)
+    (λ c. sized-lies _ _ _ _ (told-as toldText (c .before .span .given .1) (c .before .before .before .read-bytes .ensures)) .ordered)
+    (λ c. sized-lies _ _ _ _ (told-as toldText (c .before .span .given .1) (c .before .before .before .read-bytes .ensures)) .ordered)
+    (λ c. sized-lies _ _ _ _ (told-as toldText (c .before .span .given .1) (c .before .before .before .read-bytes .ensures)) .inside-them)
     (λ c κs. search needs)
     (λ c. not-utf8 _ _ _ (told-as toldText (c .before .before .before .before .span .given .1) (c .before .before .before .before .before .before .read-bytes .ensures)) (rw (c .before .valid-up-to .ensures) at (c .if1 .taken)))
     (λ c. search needs)
