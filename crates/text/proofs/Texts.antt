@@ -1,9 +1,10 @@
 -- The cases of a size and of a size with its bytes, each from what leads to it. Assumes nothing.
-use Prim.Native.Nat.{ℕ, _<_, _≤_}
+use Prim.Native.Nat.{ℕ, _-_, _<_, _≤_}
 use native.Mathlib.Omega.{arith}
 use borrow.Author.Tests.{lt-ltb, le-ltb}
+use lib.Dec.{ltb}
 use mathlib.Core.Path.{_≡_, refl, sym, _∙_, ap}
-use mathlib.Core.Bool.{true, false}
+use mathlib.Core.Bool.{Bool, true, false, cond}
 use mathlib.Core.List.{List, []}
 use lib.IntN.{ℤ, pos, negsuc, natAbs}
 use mir.Syntax.{w32}
@@ -147,15 +148,19 @@ uuid-lies s at {p} {q} e =
 module _ (s : List ℕ) (p : Span) where
   pub part-unordered : p .end < p .start → [] ≡ partIn s p
   unfolding partIn
-  part-unordered h = simp (lt-ltb _ _ h)
+  part-unordered h = go (ltb (length s) (p .end))
+    where
+      go : (b : Bool) → [] ≡ cond b [] (bytesIn s p)
+      go true = refl
+      go false = let none : p .end - p .start ≡ 0 = omega arith in rw none refl
 
-  pub part-outside : p .start ≤ p .end → length s < p .end → [] ≡ partIn s p
+  pub part-outside : length s < p .end → [] ≡ partIn s p
   unfolding partIn
-  part-outside h i = simp (le-ltb _ _ h, lt-ltb _ _ i)
+  part-outside h = simp (lt-ltb _ _ h)
 
-  pub part-inside : p .start ≤ p .end → p .end ≤ length s → bytesIn s p ≡ partIn s p
+  pub part-inside : p .end ≤ length s → bytesIn s p ≡ partIn s p
   unfolding partIn
-  part-inside h i = simp (le-ltb _ _ h, le-ltb _ _ i)
+  part-inside h = simp (le-ltb _ _ h)
 
 pub handed : (s : List ℕ) {p : Span} {q : ℕ} {m : Answer Span} {r : List ℕ} → Lies (length s) p → gives p q ≡ m → r ≡ partIn s p → r ≡ partOf s m
-handed s {p} l e h = h ∙ sym (part-inside s p (l .ordered) (l .inside-them)) ∙ ap (partOf s) e
+handed s {p} l e h = h ∙ sym (part-inside s p (l .inside-them)) ∙ ap (partOf s) e

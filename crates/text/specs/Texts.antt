@@ -66,9 +66,9 @@ stringAt limit s at =
 unfoldable pub uuidAt : List ℕ → ℕ → Answer Span
 uuidAt s at = andThen (within s at 16) λ _ end. gives (span at end) end
 
--- the part that a span marks, none where it does not lie inside
+-- the part that a span marks, none where it ends outside; nor where it ends before it starts, as that leaves no bytes to take
 unfoldable pub partIn : List ℕ → Span → List ℕ
-partIn s p = cond (ltb (p .end) (p .start)) [] (cond (ltb (length s) (p .end)) [] (bytesIn s p))
+partIn s p = cond (ltb (length s) (p .end)) [] (bytesIn s p)
 
 -- the part that a read hands out: the bytes that it found, none where it refuses
 abbrev pub partOf : List ℕ → Answer Span → List ℕ

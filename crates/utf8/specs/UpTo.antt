@@ -10,7 +10,7 @@ use Rattle.utf8.specs.Utf8.{Char, Text, Nothing, Stands, ValidUpTo}
 use Rattle.utf8.specs.Utf8.Char.{one, two, three-low, three-high, four}
 use Rattle.utf8.specs.Utf8.Text.{empty, more}
 use Rattle.utf8.specs.Chars.{is-two, is-three, is-four}
-use Rattle.utf8.specs.Fronts.{listAt, Not, stands, none, is-one, at-end}
+use Rattle.utf8.specs.Fronts.{eachAt, Not, stands, none, is-one, at-end}
 use Rattle.utf8.specs.Unique.{only}
 
 -- a claim is decided on either side of a test
@@ -84,10 +84,10 @@ front s at =
     by-test (length s - at) 4 (λ h. nothing (none s at not-one not-two not-three (λ m k. omega arith)))
     (λ h4. try 3 h4 (four? _ _ _ _) (λ not-four. nothing (none s at not-one not-two not-three not-four)))))))))
   where
-    found : (w : ℕ) → suc w ≤ length s - at → Char (listAt (suc w) s at) → Front (drop at s)
+    found : (w : ℕ) → suc w ≤ length s - at → Char (eachAt (suc w) s at) → Front (drop at s)
     found w h k = record { width = suc w; stands-so = stands w s at h k }
 
-    try : (w : ℕ) → suc w ≤ length s - at → Dec (Char (listAt (suc w) s at)) → (Not (suc w) s at → Front (drop at s)) → Front (drop at s)
+    try : (w : ℕ) → suc w ≤ length s - at → Dec (Char (eachAt (suc w) s at)) → (Not (suc w) s at → Front (drop at s)) → Front (drop at s)
     try w h (yes k) on = found w h k
     try w h (no k) on = on (λ m. k)
 
