@@ -8,7 +8,6 @@ use native.Mathlib.Decide.{decLt}
 use native.Mathlib.Omega.{arith}
 use lib.ListN.{length}
 use Rattle.wire.specs.Answer.{Answer, refused}
-use Rattle.wire.specs.Refusals.{kindNumber}
 use Rattle.codes.specs.Shapes.{shapeOf}
 use Rattle.codes.specs.declared.TType.{TType}
 use Rattle.wire.specs.declared.refusal.Refusal.{Refusal}
@@ -68,22 +67,16 @@ module _ (c : TConfiguration) (s : List ℕ) (at d sd : ℕ) (t : TType) where
     λ v. accepts c s at d sd t (v .inside) (v .depth) (v .structs) r says e n .1 (v .stands),
   )
 
-same-told : (sd : ℕ) (a b : Skipped) → toldSkipped a ≡ toldSkipped b → HandsOn sd a → HandsOn sd b → a ≡ b
-same-told sd (Skip.Passed u d n) (Skip.Passed v e m) q p r =
-    let at : u .at ≡ v .at = cc in
-    let depth : d ≡ e = p ∙ sym r in
-    let count : n ≡ m = cc in
-    ap (λ (k : ℕ). Skip.Passed (record { at = k }) d n) at ∙ cc
-same-told sd (Skip.Passed u d n) (Skip.Refused y m) q p r = clash (cc)
-same-told sd (Skip.Refused x n) (Skip.Passed v e m) q p r = clash (cc)
-same-told sd (Skip.Refused x n) (Skip.Refused y m) q p r =
-    let number : kindNumber (x .kind) ≡ kindNumber (y .kind) = cc in
-    let place : x .place ≡ y .place = cc in
-    let count : n ≡ m = cc in
-    let refusal : x ≡ y = sym (told-back x) ∙ ap (λ (k : ℕ). refusalOf k (x .place)) number ∙ ap (refusalOf (kindNumber (y .kind))) place ∙ told-back y in
-    ap (λ (z : Refusal). Skip.Refused z n) refusal ∙ ap (Skip.Refused y) count
+-- an answer from what it tells and the struct depth that it was given
+abbrev back : ℕ → Outcome → Skipped
+back sd (ended e n) = Skip.Passed (record { at = e }) sd n
+back sd (cut-off k p n) = Skip.Refused (refusalOf k p) n
+
+had-back : (sd : ℕ) (a : Skipped) → HandsOn sd a → back sd (toldSkipped a) ≡ a
+had-back sd (Skip.Passed u d n) h = ap (λ (k : ℕ). Skip.Passed u k n) (sym h)
+had-back sd (Skip.Refused x n) h = ap (λ (z : Refusal). Skip.Refused z n) (told-back x)
 
 -- any two answers that the promise admits are equal
 pub skip-settled : (c : TConfiguration) (s : List ℕ) (at d sd : ℕ) (t : TType) (a b : Skipped) → SkipSays c s at d sd t a → SkipSays c s at d sd t b → a ≡ b
 skip-settled c s at d sd t a b p q =
-    same-told sd a b (skip-only c s at d sd t (toldSkipped a) (toldSkipped b) (p .answers) (q .answers)) (p .hands) (q .hands)
+    sym (had-back sd a (p .hands)) ∙ ap (back sd) (skip-only c s at d sd t (toldSkipped a) (toldSkipped b) (p .answers) (q .answers)) ∙ had-back sd b (q .hands)

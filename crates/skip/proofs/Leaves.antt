@@ -4,21 +4,13 @@ use mathlib.Core.Path.{_≡_, refl, sym, ap, subst}
 use mathlib.Core.List.{List}
 use native.Mathlib.Omega.{arith}
 use Rattle.wire.specs.Answer.{Answer, gives, refused, judged, within}
-use Rattle.codes.specs.Shapes.{shapeOf}
-use Rattle.codes.specs.declared.TType.{TType}
-use Rattle.codes.specs.declared.TType.the-variants as T
 use Rattle.codes.specs.declared.shape.Shape.{Shape}
 use Rattle.codes.specs.declared.shape.Shape.the-variants as Sh
 use Rattle.config.specs.declared.configuration.TConfiguration.{TConfiguration}
 use Rattle.number.proofs.Widths.{Octets}
-use lib.IntN.{ℤ, natAbs}
-use Rattle.config.specs.declared.limit.Limit.{Limit}
-use Rattle.text.specs.Texts.{limitedAt, bytesAt}
-use Rattle.text.proofs.Texts as texts
+use Rattle.text.specs.Texts.{bytesAt}
 use Rattle.text.specs.declared.Span.{Span}
-use Rattle.text.specs.declared.Body.the-variants as Body-of
 use Rattle.tree.specs.Answers.{Outcome, cut-off, leafOutcome, Answers}
-use Rattle.tree.proofs.Heads.{clash}
 use Rattle.tree.proofs.Steps as steps
 
 -- an outcome that is known
@@ -49,33 +41,3 @@ module _ (c : TConfiguration) (s : List ℕ) (at d sd : ℕ) where
       go : (m : Answer Span) → bytesAt (c .«max_string_size») s at ≡ m → Answers c s at d sd Sh.Text (leafOutcome (judged m))
       go (gives p q) f = steps.text-stands c s at d sd h o (sym f)
       go (refused n p) f = steps.own-refused c s at d sd Sh.Text n p h (ap judged (sym f))
-
--- after its size, a text is so many bytes
-pub text-onward : (limit : Limit) (s : List ℕ) (at : ℕ) {v : ℤ} {first : ℕ} → gives v first ≡ limitedAt Body-of.Text limit s at → within s first (natAbs v) ≡ judged (bytesAt limit s at)
-text-onward limit s at {v} {first} e = go (within s first (natAbs v)) refl
-  where
-    go : (m : Answer Unit) → within s first (natAbs v) ≡ m → m ≡ judged (bytesAt limit s at)
-    go (gives u q) f = ap judged (texts.whole Body-of.Text limit s at e (sym f))
-    go (refused n p) f = ap judged (texts.cut Body-of.Text limit s at e (sym f))
-
--- a shape of fixed bytes has some, and few
-pub record Width (w : ℕ) : Type 0 where
-  pub some : 0 < w
-  pub few : w ≤ 32
-
-pub fixed-width : (t : TType) (w : ℕ) → shapeOf t ≡ Sh.Fixed w → Width w
-fixed-width T.Stop w h = clash (cc)
-fixed-width T.Void w h = clash (cc)
-fixed-width T.Bool w h = let e : 1 ≡ w = cc in record { some = omega arith; few = omega arith }
-fixed-width T.I08 w h = let e : 1 ≡ w = cc in record { some = omega arith; few = omega arith }
-fixed-width T.Double w h = let e : 8 ≡ w = cc in record { some = omega arith; few = omega arith }
-fixed-width T.I16 w h = let e : 2 ≡ w = cc in record { some = omega arith; few = omega arith }
-fixed-width T.I32 w h = let e : 4 ≡ w = cc in record { some = omega arith; few = omega arith }
-fixed-width T.I64 w h = let e : 8 ≡ w = cc in record { some = omega arith; few = omega arith }
-fixed-width T.String w h = clash (cc)
-fixed-width T.Utf7 w h = clash (cc)
-fixed-width T.Struct w h = clash (cc)
-fixed-width T.Map w h = clash (cc)
-fixed-width T.Set w h = clash (cc)
-fixed-width T.List w h = clash (cc)
-fixed-width T.Uuid w h = let e : 16 ≡ w = cc in record { some = omega arith; few = omega arith }

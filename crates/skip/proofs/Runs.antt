@@ -15,8 +15,10 @@ use Rattle.wire.proofs.Within.{whole, inside}
 use Rattle.config.specs.declared.configuration.TConfiguration.{TConfiguration}
 use Rattle.tree.specs.Answers.{Stands}
 use Rattle.tree.proofs.Steps as steps
-use Rattle.skip.specs.Runs.{InRun}
-use Rattle.skip.proofs.Leaves.{fixed-width}
+use Rattle.leaf.specs.Runs.{runAt}
+use Rattle.leaf.specs.declared.Run.{Run}
+use Rattle.leaf.proofs.Leaves.{fixed-width}
+use Rattle.leaf.proofs.Runs.{InRun, in-run}
 
 module _ (c : TConfiguration) (s : List ℕ) (at d sd : ℕ) {t : TType} {size : ℤ} {first : ℕ} where
   -- the same loop, at places and numbers that are equal
@@ -32,14 +34,20 @@ module _ (c : TConfiguration) (s : List ℕ) (at d sd : ℕ) {t : TType} {size :
       let one = steps.fixed-stands c s (first + n * w) (d - 1) sd w (λ z. omega arith) some (whole s (first + n * w) w (omega (arith, m)) (omega (arith, m))) in
       moved (steps.list-more c s at d sd before (omega arith) (subst (λ (x : Shape). Stands c s (first + n * w) (d - 1) sd x (first + n * w + w) 1) (sym e) one)) (omega (arith, m)) (omega arith)
 
-  pub after-run : {n end : ℕ} → steps.ListLoop c s at d sd t size first first 1 0 → InRun s first (shapeOf t) (natAbs size) (d - 1) n end
-      → steps.ListLoop c s at d sd t size first end (n + 1) n
-  after-run l (inl none) = moved l (sym (none .1)) (sym (none .0))
-  after-run l (inr all) =
-      let i = inside s first (natAbs size * all .width) (all .inside) in
-      moved (run (all .width) (natAbs size) l (all .shape) (fixed-width t (all .width) (all .shape) .some) (all .deep) (omega arith) (i .room)) (sym (i .next)) (sym (all .all))
+  pub after-run : {r : Run} → steps.ListLoop c s at d sd t size first first 1 0 → r ≡ runAt s first (shapeOf t) (natAbs size) (d - 1)
+      → steps.ListLoop c s at d sd t size first (r .end) (r .elements + 1) (r .elements)
+  after-run {r} l e = go (in-run s first (shapeOf t) (natAbs size) (d - 1) e)
+    where
+      go : InRun s first (shapeOf t) (natAbs size) (d - 1) r → steps.ListLoop c s at d sd t size first (r .end) (r .elements + 1) (r .elements)
+      go (inl none) = moved l (sym (none .1)) (sym (none .0))
+      go (inr all) =
+          let i = inside s first (natAbs size * all .width) (all .inside) in
+          moved (run (all .width) (natAbs size) l (all .shape) (fixed-width t (all .width) (all .shape) .some) (all .deep) (omega arith) (i .room)) (sym (i .next)) (sym (all .all))
 
 -- a run is no longer than its list
-pub run-upto : {s : List ℕ} {first : ℕ} {sh : Shape} {len depth n end : ℕ} → InRun s first sh len depth n end → n ≤ len
-run-upto (inl none) = omega (arith, none .0)
-run-upto (inr all) = omega (arith, all .all)
+pub run-upto : (s : List ℕ) (first : ℕ) (sh : Shape) (len depth : ℕ) {r : Run} → r ≡ runAt s first sh len depth → r .elements ≤ len
+run-upto s first sh len depth {r} e = go (in-run s first sh len depth e)
+  where
+    go : InRun s first sh len depth r → r .elements ≤ len
+    go (inl none) = omega (arith, none .0)
+    go (inr all) = omega (arith, all .all)

@@ -1,7 +1,7 @@
 // The public skip.
-use crate::value::Walked;
 use codes::TType;
 use config::configuration::TConfiguration;
+use leaf::Walked;
 use wire::cursor::Cursor;
 use wire::refusal::Kind;
 use wire::refusal::Refusal;

@@ -3,90 +3,18 @@
 use codes::TType;
 use codes::shape::Shape;
 use config::configuration::TConfiguration;
+use leaf::Walked;
 use nesting::DepthRead;
-use number::I32Read;
 use read::container::ListRead;
 use read::container::MapRead;
 use read::field::FieldRead;
-use text::Body;
 use wire::cursor::Cursor;
-use wire::cursor::Moved;
 use wire::refusal::Kind;
-use wire::refusal::Refusal;
 ghost use mathlib.Core.Path.{_≡_};
 ghost use Prim.Native.Nat.{_<_};
-ghost use Rattle.wire.specs.Answer.{judged, within};
-ghost use Rattle.wire.specs.Refusals.{kindNumber};
 ghost use Rattle.codes.specs.Shapes.{shapeOf};
-ghost use Rattle.text.specs.Texts.{bytesAt};
-ghost use Rattle.tree.specs.Answers.{leafOutcome, Answers, cut-off};
-ghost use Rattle.skip.specs.Told.{toldWalked};
-ghost use Rattle.skip.specs.Runs.{InRun};
-
-// The cursor past a value and the values in it, or the refusal and the values begun.
-pub enum Walked {
-    Passed(Cursor, usize),
-    Refused(Refusal, usize),
-}
-
-fn refused(kind: Kind, place: usize) -> Walked
-    ensures { λ r. ⌜ toldWalked r ≡ cut-off (kindNumber kind) place 1 ⌝ }
-{
-    Walked::Refused(Refusal { kind, place }, 1)
-}
-
-fn skip_fixed(bytes: &[u8], cursor: Cursor, width: usize) -> Walked
-    ensures { λ r. ⌜ toldWalked r ≡ leafOutcome (within (now (bytes .entry)) (cursor .at) width) ⌝ }
-{
-    match cursor.past(bytes, width) {
-        Moved::To(next) => Walked::Passed(next, 1),
-        Moved::Refused(refusal) => Walked::Refused(refusal, 1),
-    }
-}
-
-// A size, then as many bytes; no check of UTF-8.
-fn skip_text(bytes: &[u8], cursor: Cursor, config: TConfiguration) -> Walked
-    ensures { λ r. ⌜ toldWalked r ≡ leafOutcome (judged (bytesAt (config .«max_string_size») (now (bytes .entry)) (cursor .at))) ⌝ }
-{
-    let limit = config.max_string_size;
-    match text::read_limited(bytes, cursor, limit, Body::Text) {
-        I32Read::Value(size, body) => { skip_fixed(bytes, body, sign::bits32(size) as usize) }
-        I32Read::Refused(refusal) => Walked::Refused(refusal, 1),
-    }
-}
-
-// Elements that were passed together: how many, and the place after them.
-struct Run {
-    elements: usize,
-    end: usize,
-}
-
-// Elements of a fixed width that all lie within, with depth left for each, are passed together; none of others.
-fn skip_run(bytes: &[u8], first: usize, element_type: TType, size: u32, depth: usize) -> Run
-    ensures { λ r. ⌜ InRun (now (bytes .entry)) first (shapeOf «element_type») size depth (r .elements) (r .end) ⌝ }
-{
-    let none = Run {
-        elements: 0,
-        end: first,
-    };
-    if depth < 1 {
-        return none;
-    }
-    match codes::shape::shape_of(element_type) {
-        Shape::Fixed(width) => {
-            let elements = size as usize;
-            let cursor = Cursor { at: first };
-            match cursor.past(bytes, elements * width) {
-                Moved::To(next) => {
-                    let end = next.at;
-                    Run { elements, end }
-                }
-                Moved::Refused(_) => none,
-            }
-        }
-        _ => none,
-    }
-}
+ghost use Rattle.tree.specs.Answers.{Answers};
+ghost use Rattle.leaf.specs.Told.{toldWalked};
 
 pub(crate) fn skip_value(
     bytes: &[u8],
@@ -100,15 +28,15 @@ pub(crate) fn skip_value(
 {
     let start = cursor.at;
     if depth == 0 {
-        return refused(Kind::SkipDepth, start);
+        return leaf::refused(Kind::SkipDepth, start);
     }
     match codes::shape::shape_of(field_type) {
-        Shape::Fixed(width) => skip_fixed(bytes, cursor, width),
-        Shape::Text => skip_text(bytes, cursor, config),
+        Shape::Fixed(width) => leaf::skip_fixed(bytes, cursor, width),
+        Shape::Text => leaf::skip_text(bytes, cursor, config),
         Shape::Fields => skip_struct(bytes, start, depth, struct_depth, config),
         Shape::Items => skip_list(bytes, start, depth, struct_depth, config),
         Shape::Pairs => skip_map(bytes, start, depth, struct_depth, config),
-        Shape::Unfit => refused(Kind::WrongType, start),
+        Shape::Unfit => leaf::refused(Kind::WrongType, start),
     }
 }
 
@@ -171,7 +99,7 @@ fn skip_list(
             let bits = sign::bits32(size);
             let len = bits as usize;
             let begin = first.at;
-            let run = skip_run(bytes, begin, element_type, bits, depth - 1);
+            let run = leaf::skip_run(bytes, begin, element_type, bits, depth - 1);
             let mut at = run.end;
             let mut count = run.elements + 1;
             let mut i = run.elements;

@@ -8,13 +8,13 @@ use Rattle.wire.specs.declared.cursor.Moved.{Moved}
 use Rattle.wire.specs.declared.cursor.Moved.the-variants as M
 use Rattle.wire.proofs.Refusals.{refusalOf, told-back}
 
--- for any kind of answer E that tells an Answer A
-module _ {E A : Type 0} (told : E → Answer A) (back : Answer A → E) (same : (e : E) → back (told e) ≡ e) where
+-- for any kind of answer E that tells a T
+module _ {E T : Type 0} (told : E → T) (back : T → E) (same : (e : E) → back (told e) ≡ e) where
   pub unique : {a b : E} → told a ≡ told b → a ≡ b
   unique {a} {b} e = sym (same a) ∙ ap back e ∙ same b
 
   -- two answers that tell what one definition says
-  pub settled : {a b : E} {m : Answer A} → told a ≡ m → told b ≡ m → a ≡ b
+  pub settled : {a b : E} {m : T} → told a ≡ m → told b ≡ m → a ≡ b
   settled p q = unique (p ∙ sym q)
 
 -- an answer of a value with the moved cursor, or a refusal, from what it tells

@@ -11,7 +11,7 @@ use borrow.Author.Needs.{needs}
 use Rattle.wire.proofs.Answers.{told-as}
 use Rattle.read.specs.Told.{toldField, toldList, toldMap}
 use Rattle.nesting.specs.Structs.{toldDepth}
-use Rattle.skip.specs.Told.{toldWalked}
+use Rattle.leaf.specs.Told.{toldWalked}
 use Rattle.tree.proofs.Steps as steps
 use Rattle.tree.proofs.Bounds.{stands-count, cut-small}
 use Rattle.skip.proofs.Runs.{after-run, run-upto}
@@ -21,7 +21,8 @@ use Rattle.wire.specs.Answer.{judged}
 use Rattle.tree.proofs.Parts.{part-length}
 use Rattle.tree.proofs.Heads.{field-is, struct-is}
 use Rattle.codes.specs.declared.shape.Shape.the-variants as Sh
-use Rattle.skip.proofs.Leaves.{fixed-width, fixed-answers, text-answers, unfit-answers, deep-answers, shape-answers}
+use Rattle.leaf.proofs.Leaves.{fixed-width}
+use Rattle.skip.proofs.Leaves.{fixed-answers, text-answers, unfit-answers, deep-answers, shape-answers}
 use borrow.Fn.Kinds.{In}
 use borrow.Fn.PlainCycle.{Measures, is, falls, and}
 use Rattle.skip.proofs.value.skip_list.Reads as skip-list
@@ -41,10 +42,10 @@ use Rattle.read.proofs.container.read_list_begin.Reads as read-list-begin-reads
 use Rattle.read.proofs.container.read_map_begin.Reads as read-map-begin-reads
 use Rattle.read.proofs.field.read_field_begin.Reads as read-field-begin-reads
 use Rattle.nesting.proofs.read_struct_begin.Reads as read-struct-begin-reads
-use Rattle.skip.proofs.value.refused.Reads as refused-reads
-use Rattle.skip.proofs.value.skip_fixed.Reads as skip-fixed-reads
-use Rattle.skip.proofs.value.skip_run.Reads as skip-run-reads
-use Rattle.skip.proofs.value.skip_text.Reads as skip-text-reads
+use Rattle.leaf.proofs.refused.Reads as refused-reads
+use Rattle.leaf.proofs.skip_fixed.Reads as skip-fixed-reads
+use Rattle.leaf.proofs.skip_run.Reads as skip-run-reads
+use Rattle.leaf.proofs.skip_text.Reads as skip-text-reads
 use Rattle.codes.proofs.TType.is_stop.Reads as is-stop-reads
 use Rattle.codes.proofs.shape.shape_of.Reads as shape-of-reads
 use Rattle.skip.proofs.value.+skip_list+skip_map+skip_struct+skip_value.{statement}
@@ -137,7 +138,7 @@ pub +skip-list+skip-map+skip-struct+skip-value-spec : {M : Type 1} → statement
     (λ c. search needs)
     (λ c. omega (arith, c .before .before .before .before .before .before .before .pre .1))
     (λ c κs. search needs)
-    (λ c. record { fits = omega (arith, run-upto (c .before .skip-run .ensures), c .before .before .bits32 .ok) })
+    (λ c. record { fits = omega (arith, run-upto _ _ _ _ _ (c .before .skip-run .ensures), c .before .before .bits32 .ok) })
     (λ c. let same : toZ w32 (ofZ w32 (c .before .before .before .before .before .list .given .0 .0 .size)) ≡ c .before .before .before .before .before .list .given .0 .0 .size = search needs in let l = c .before .before .bits32 .ensures ∙ ap (ofZ w32) same ∙ list-bits _ _ _ (told-as toldList (c .before .before .before .before .before .list .given .1) (c .before .before .before .before .before .before .before .read-list-begin .ensures)) in rw same (after-run _ _ _ _ _ (steps.list-start _ _ _ _ _ (λ i. c .before .before .before .before .before .before .before .before .shared-slice-known .given i .fits) (c .before .before .before .before .before .before .before .before .before .pre .1) (told-as toldList (c .before .before .before .before .before .list .given .1) (c .before .before .before .before .before .before .before .read-list-begin .ensures))) (rw l at (c .before .skip-run .ensures)), l))
     (λ c. omega (arith, c .before .loop .inv .0 .deep))
     (λ c κs. (omega (arith, c .before .before .before .before .before .before .before .before .before .before .before .pre .0, c .before .loop .inv .0 .deep), tt))

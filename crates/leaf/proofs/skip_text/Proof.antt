@@ -9,9 +9,9 @@ use Rattle.wire.specs.Answer.{judged}
 use Rattle.wire.proofs.Answers.{told-as}
 use Rattle.text.proofs.Texts.{size-bits, limited-is, unsized}
 use Rattle.tree.specs.Answers.{leafOutcome}
-use Rattle.skip.proofs.Leaves.{text-onward}
-use Rattle.skip.proofs.value.skip_text.Statement.{statement}
-use Rattle.skip.proofs.value.skip_text.Tie as tie
+use Rattle.leaf.proofs.Leaves.{text-onward}
+use Rattle.leaf.proofs.skip_text.Statement.{statement}
+use Rattle.leaf.proofs.skip_text.Tie as tie
 
 -- a signed number that a pattern binds is read again from its bits
 same : (c : tie.After-known-told) → toZ w32 (ofZ w32 (c .before .size .given .0 .0)) ≡ c .before .size .given .0 .0

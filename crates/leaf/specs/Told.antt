@@ -1,8 +1,8 @@
--- What the answers of the skip's inner walk tell; `toldSkipped` is in Skips.
+-- What passing a value tells.
 use Rattle.wire.specs.Refusals.{kindNumber}
 use Rattle.tree.specs.Answers.{Outcome, ended, cut-off}
-use Rattle.skip.specs.declared.value.Walked.{Walked}
-use Rattle.skip.specs.declared.value.Walked.the-variants as Walk
+use Rattle.leaf.specs.declared.Walked.{Walked}
+use Rattle.leaf.specs.declared.Walked.the-variants as Walk
 
 abbrev pub toldWalked : Walked → Outcome
 toldWalked (Walk.Passed c n) = ended (c .at) n

@@ -4,8 +4,8 @@ use mathlib.Core.Path.{ap}
 use Rattle.wire.proofs.Answers.{told-as}
 use Rattle.wire.specs.Refusals.{toldMoved}
 use Rattle.tree.specs.Answers.{leafOutcome}
-use Rattle.skip.proofs.value.skip_fixed.Statement.{statement}
-use Rattle.skip.proofs.value.skip_fixed.Tie as tie
+use Rattle.leaf.proofs.skip_fixed.Statement.{statement}
+use Rattle.leaf.proofs.skip_fixed.Tie as tie
 
 pub skip-fixed-spec : {M : Type 1} → statement M
 skip-fixed-spec =
