@@ -104,14 +104,8 @@ fn skip_list(
             let mut count = run.elements + 1;
             let mut i = run.elements;
             while i < len {
-                match skip_value(
-                    bytes,
-                    Cursor { at },
-                    element_type,
-                    depth - 1,
-                    struct_depth,
-                    config,
-                ) {
+                let cursor = Cursor { at };
+                match skip_value(bytes, cursor, element_type, depth - 1, struct_depth, config) {
                     Walked::Passed(end, values) => {
                         at = end.at;
                         count = count + values;
@@ -148,14 +142,8 @@ fn skip_map(
             let mut count: usize = 1;
             let mut i: usize = 0;
             while i < len {
-                match skip_value(
-                    bytes,
-                    Cursor { at },
-                    key_type,
-                    depth - 1,
-                    struct_depth,
-                    config,
-                ) {
+                let cursor = Cursor { at };
+                match skip_value(bytes, cursor, key_type, depth - 1, struct_depth, config) {
                     Walked::Passed(mid, keys) => {
                         match skip_value(bytes, mid, value_type, depth - 1, struct_depth, config) {
                             Walked::Passed(next, values) => {
