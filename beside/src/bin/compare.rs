@@ -1,6 +1,6 @@
 //! Compares the published crate with the port and prints what came of it.
 //!
-//! `compare [--threads N] [--rounds N] [--seed N] [--short] [--try-wrong]`
+//! `compare [--threads N] [--rounds N] [--seed N] [--whole] [--try-wrong]`
 
 use std::process::ExitCode;
 use std::time::Instant;
@@ -11,14 +11,14 @@ use beside::known::Known;
 use beside::{habits, port, published, shares, wrong};
 
 const SEED: u64 = 20_250_117;
-/// Random trees: with the exhaustive sections a run of about two minutes on two cores.
+/// Random trees: a run of about half a minute on two cores, and of two where the whole is asked for.
 const ROUNDS: u64 = 60_000;
 
 struct Arguments {
     threads: usize,
     rounds: u64,
     seed: u64,
-    short: bool,
+    whole: bool,
     only_wrong: bool,
 }
 
@@ -27,7 +27,7 @@ fn arguments() -> Result<Arguments, String> {
         threads: std::thread::available_parallelism().map_or(1, usize::from),
         rounds: ROUNDS,
         seed: SEED,
-        short: false,
+        whole: false,
         only_wrong: false,
     };
     let mut words = std::env::args().skip(1);
@@ -40,7 +40,7 @@ fn arguments() -> Result<Arguments, String> {
             "--threads" => arguments.threads = number()?.max(1) as usize,
             "--rounds" => arguments.rounds = number()?,
             "--seed" => arguments.seed = number()?,
-            "--short" => arguments.short = true,
+            "--whole" => arguments.whole = true,
             "--try-wrong" => arguments.only_wrong = true,
             _ => return Err(format!("no such argument: {word}")),
         }
@@ -58,10 +58,7 @@ fn compare(arguments: &Arguments) -> Tally {
     };
     let ports = port::all();
     let mut sum = Tally::default();
-    let wanted = |section: &&Section| match section.amount {
-        Amount::Most | Amount::Rest => !arguments.short,
-        _ => true,
-    };
+    let wanted = |section: &&Section| arguments.whole || section.amount != Amount::Most;
     for section in SECTIONS.iter().filter(wanted) {
         let start = Instant::now();
         let tally = shares::run(section, arguments.threads, length, &ports);

@@ -45,10 +45,8 @@ pub enum Amount {
     Little,
     /// Shown in some seconds.
     Much,
-    /// Shown in a minute or more.
+    /// Shown in a minute or more, where the whole is asked for.
     Most,
-    /// The same, for calls whose answer no byte decides.
-    Rest,
     /// As many random values as are asked for.
     Asked,
 }
@@ -126,13 +124,13 @@ pub const SECTIONS: [Section; 16] = [
     )),
     section(Amount::Much, "texts, UTF-8 and not", utf8::show),
     not_kept(section(
-        Amount::Most,
-        "every string of 0 to 3 bytes",
+        Amount::Much,
+        "every string of 0 to 2 bytes",
         short::show_all,
     )),
     not_kept(section(
-        Amount::Rest,
-        "the same where no byte decides",
-        short::show_undecided,
+        Amount::Most,
+        "every string of 0 to 3 bytes",
+        short::show_whole,
     )),
 ];

@@ -51,21 +51,25 @@ fn show_strings(
     });
 }
 
-/// Every string of 0 to 3 bytes, to every read and every type's skip whose answer bytes decide; to the others, to 2.
-pub fn show_all(visitor: &mut dyn Visitor, share: &Share) {
-    let bytes: Vec<u8> = (0..=255).collect();
-    let (decided, others) = reads::by_bytes();
-    show_strings(visitor, share, &decided, &bytes, 3);
-    show_strings(visitor, share, &others, &bytes, 2);
+fn all_bytes() -> Vec<u8> {
+    (0..=255).collect()
 }
 
-/// The others with every string of 0 to 3 bytes as well, but for a step that the crate doesn't have: a scalar read of
-/// a type that is no scalar's.
-pub fn show_undecided(visitor: &mut dyn Visitor, share: &Share) {
-    let bytes: Vec<u8> = (0..=255).collect();
-    let mut others = reads::by_bytes().1;
-    others.retain(|call| call.step != ReadStep::Scalar);
-    show_strings(visitor, share, &others, &bytes, 3);
+/// Every string of 0 to 2 bytes, to every read and every type's skip.
+pub fn show_all(visitor: &mut dyn Visitor, share: &Share) {
+    show_strings(visitor, share, &reads::every(), &all_bytes(), 2);
+}
+
+/// Every string of 0 to 3 bytes, but for a step that the crate doesn't have: a scalar read of a type that is no
+/// scalar's.
+pub fn show_whole(visitor: &mut dyn Visitor, share: &Share) {
+    let (mut calls, others) = reads::by_bytes();
+    calls.extend(
+        others
+            .into_iter()
+            .filter(|call| call.step != ReadStep::Scalar),
+    );
+    show_strings(visitor, share, &calls, &all_bytes(), 3);
 }
 
 /// Every string of 0 to 6 telling bytes.
