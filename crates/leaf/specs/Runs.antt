@@ -1,4 +1,4 @@
--- Elements of a list that are passed together.
+-- Elements of a list that are passed together: a short cut of the code, no rule of 01, and of which no promise of the skip speaks.
 use Prim.Native.Nat.{ℕ, _*_}
 use mathlib.Core.Bool.{cond}
 use mathlib.Core.List.{List}
