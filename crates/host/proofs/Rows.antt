@@ -19,6 +19,8 @@ use Rattle.number.proofs.Widths.{length-bytesOf}
 use Rattle.config.specs.Limits.{defaultLimits}
 use Rattle.tree.specs.Answers.{Outcome, cut-off, skipEntry, AfterEntry}
 use Rattle.tree.proofs.Only.{skip-only}
+use Rattle.binary.specs.Binary.{binary}
+use Rattle.binary.proofs.Binary.{binary-reads}
 use Rattle.host.specs.Host.{rowOf, filled, ByType, HostAnswers, ByLength, Hosted}
 
 pub unknown-as : (s : List ℕ) (at d : ℕ) (m : Answer Unit) (x : Outcome) → skipEntry d 0 s at ≡ m → AfterEntry m x (x ≡ cut-off 5 at 0) → ByType Type-of.Unknown s at d x
@@ -37,7 +39,7 @@ set s at d b old new x h a e =
 
 -- any two records and returns that the promise admits are equal
 host-only : (s : List ℕ) (at d : ℕ) (k : Typed) (x y : Outcome) → ByType k s at d x → ByType k s at d y → x ≡ y
-host-only s at d (Type-of.Known t) x y a b = skip-only defaultLimits s at d 0 t x y a b
+host-only s at d (Type-of.Known t) x y a b = skip-only binary binary-reads defaultLimits s at d 0 t x y a b
 host-only s at d Type-of.Unknown x y a b = go (skipEntry d 0 s at) a b
   where
     go : (m : Answer Unit) → AfterEntry m x (x ≡ cut-off 5 at 0) → AfterEntry m y (y ≡ cut-off 5 at 0) → x ≡ y

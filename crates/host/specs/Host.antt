@@ -11,6 +11,7 @@ use Rattle.codes.specs.declared.Typed.the-variants as Type-of
 use Rattle.number.specs.BigEndian.{bytesOf}
 use Rattle.config.specs.Limits.{defaultLimits}
 use Rattle.tree.specs.Answers.{Outcome, ended, cut-off, skipEntry, AfterEntry, SkipAnswers}
+use Rattle.binary.specs.Binary.{binary}
 use Rattle.host.specs.declared.Row.{Row}
 
 -- "refusal or 0, end or place, count"
@@ -24,7 +25,7 @@ filled w old = (bytesOf 8 (w .number) ++ bytesOf 8 (w .place) ++ bytesOf 8 (w .c
 
 -- "Default limits, struct depth 0"; "An unknown type byte is 5 at the start, count 0, after 2 and 20"
 abbrev pub ByType : Typed → List ℕ → ℕ → ℕ → Outcome → Type 0
-ByType (Type-of.Known t) s at d x = SkipAnswers defaultLimits s at d 0 t x
+ByType (Type-of.Known t) s at d x = SkipAnswers binary defaultLimits s at d 0 t x
 ByType Type-of.Unknown s at d x = AfterEntry (skipEntry d 0 s at) x (x ≡ cut-off 5 at 0)
 
 abbrev pub HostAnswers : List ℕ → ℕ → ℕ → ℕ → Outcome → Type 0

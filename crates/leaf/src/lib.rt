@@ -1,6 +1,4 @@
-// Values with no value in them, passed: scalars, UUIDs and texts one by one, elements of a fixed width together.
-use codes::TType;
-use codes::shape::Shape;
+// Values with no value in them, passed: scalars, UUIDs and texts.
 use config::configuration::TConfiguration;
 use number::I32Read;
 use text::Body;
@@ -11,11 +9,9 @@ use wire::refusal::Refusal;
 ghost use mathlib.Core.Path.{_≡_};
 ghost use Rattle.wire.specs.Answer.{judged, within};
 ghost use Rattle.wire.specs.Refusals.{kindNumber};
-ghost use Rattle.codes.specs.Shapes.{shapeOf};
 ghost use Rattle.text.specs.Texts.{bytesAt};
 ghost use Rattle.tree.specs.Answers.{leafOutcome, cut-off};
 ghost use Rattle.leaf.specs.Told.{toldWalked};
-ghost use Rattle.leaf.specs.Runs.{runAt};
 
 // The cursor past a value and the values in it, or the refusal and the values begun.
 pub enum Walked {
@@ -46,38 +42,5 @@ pub fn skip_text(bytes: &[u8], cursor: Cursor, config: TConfiguration) -> Walked
     match text::read_limited(bytes, cursor, limit, Body::Text) {
         I32Read::Value(size, body) => { skip_fixed(bytes, body, sign::bits32(size) as usize) }
         I32Read::Refused(refusal) => Walked::Refused(refusal, 1),
-    }
-}
-
-// Elements that were passed together: how many, and the place after them.
-pub struct Run {
-    pub elements: usize,
-    pub end: usize,
-}
-
-// Elements of a fixed width that all lie within, with depth left for each, are passed together; none of others.
-pub fn skip_run(bytes: &[u8], first: usize, element_type: TType, size: u32, depth: usize) -> Run
-    ensures { λ r. ⌜ r ≡ runAt (now (bytes .entry)) first (shapeOf «element_type») size depth ⌝ }
-{
-    let none = Run {
-        elements: 0,
-        end: first,
-    };
-    if depth == 0 {
-        return none;
-    }
-    match codes::shape::shape_of(element_type) {
-        Shape::Fixed(width) => {
-            let elements = size as usize;
-            let cursor = Cursor { at: first };
-            match cursor.past(bytes, elements * width) {
-                Moved::To(next) => {
-                    let end = next.at;
-                    Run { elements, end }
-                }
-                Moved::Refused(_) => none,
-            }
-        }
-        _ => none,
     }
 }

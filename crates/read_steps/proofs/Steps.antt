@@ -6,6 +6,8 @@ use Rattle.codes.specs.declared.TType.{TType}
 use Rattle.codes.specs.declared.Typed.{Typed}
 use Rattle.codes.specs.declared.Typed.the-variants as Type-of
 use Rattle.tree.proofs.Only.{skip-only}
+use Rattle.binary.specs.Binary.{binary}
+use Rattle.binary.proofs.Binary.{binary-reads}
 use Rattle.skip.specs.Skips.{toldSkipped, HandsOn, SkipSays}
 use Rattle.skip.specs.declared.till_depth.Skipped.{Skipped}
 use Rattle.skip.specs.declared.till_depth.Skipped.the-variants as Skip
@@ -36,7 +38,7 @@ module _ (s : List ℕ) (c : Reading) where
 skip-one : (k : Typed) (s : List ℕ) (c : Reading) (x y : Stepped) → SkipStep k s c x → SkipStep k s c y → x ≡ y
 skip-one (Type-of.Known t) s c x y p q =
     p .filled-by
-    ∙ ap (λ o. To.Set (skipRow (c .«struct_depth») o)) (skip-only (c .limits) s (c .place) (c .depth) (c .«struct_depth») t (p .outcome) (q .outcome) (p .answers) (q .answers))
+    ∙ ap (λ o. To.Set (skipRow (c .«struct_depth») o)) (skip-only binary binary-reads (c .limits) s (c .place) (c .depth) (c .«struct_depth») t (p .outcome) (q .outcome) (p .answers) (q .answers))
     ∙ sym (q .filled-by)
 skip-one Type-of.Unknown s c x y p q = p ∙ sym q
 

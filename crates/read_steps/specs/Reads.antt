@@ -19,6 +19,7 @@ use Rattle.scalar.specs.Scalars.{scalarAt}
 use Rattle.message.specs.Messages.{messageTypeAt, messageAt}
 use Rattle.framed.specs.Frames.{frameAt}
 use Rattle.tree.specs.Answers.{Outcome, SkipAnswers}
+use Rattle.binary.specs.Binary.{binary}
 use Rattle.rows.specs.declared.Row.{Row}
 use Rattle.rows.specs.declared.Stepped.{Stepped}
 use Rattle.rows.specs.declared.Stepped.the-variants as To
@@ -74,7 +75,7 @@ scalarStep Type-of.Unknown s at = To.Unknown
 -- a record set by an outcome that the skip answers
 pub record SkipSet (t : TType) (s : List ℕ) (c : Reading) (x : Stepped) : Type 0 where
   pub outcome : Outcome
-  pub answers : SkipAnswers (c .limits) s (c .place) (c .depth) (c .«struct_depth») t outcome
+  pub answers : SkipAnswers binary (c .limits) s (c .place) (c .depth) (c .«struct_depth») t outcome
   pub filled-by : x ≡ To.Set (skipRow (c .«struct_depth») outcome)
 
 abbrev pub SkipStep : Typed → List ℕ → Reading → Stepped → Type 0

@@ -7,6 +7,7 @@ use Rattle.codes.specs.declared.TType.{TType}
 use Rattle.wire.specs.declared.refusal.Kind.{Kind}
 use Rattle.config.specs.declared.configuration.TConfiguration.{TConfiguration}
 use Rattle.tree.specs.Answers.{Outcome, ended, cut-off, SkipAnswers}
+use Rattle.binary.specs.Binary.{binary}
 use Rattle.skip.specs.declared.till_depth.Skipped.{Skipped}
 use Rattle.skip.specs.declared.till_depth.Skipped.the-variants as Skip
 
@@ -21,7 +22,7 @@ HandsOn sd (Skip.Refused x n) = Unit
 
 -- the promise of the public skip
 pub record SkipSays (c : TConfiguration) (s : List ℕ) (at d sd : ℕ) (t : TType) (r : Skipped) : Type 0 where
-  pub answers : SkipAnswers c s at d sd t (toldSkipped r)
+  pub answers : SkipAnswers binary c s at d sd t (toldSkipped r)
   pub hands : HandsOn sd r
 
 -- "The default skip depth is 64"

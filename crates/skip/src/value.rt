@@ -12,8 +12,9 @@ use wire::cursor::Cursor;
 use wire::refusal::Kind;
 ghost use mathlib.Core.Path.{_≡_};
 ghost use Prim.Native.Nat.{_<_};
-ghost use Rattle.codes.specs.Shapes.{shapeOf};
 ghost use Rattle.tree.specs.Answers.{Answers};
+ghost use Rattle.binary.specs.Binary.{binary};
+ghost use Rattle.skip.specs.Shapes.{EachAnswers};
 ghost use Rattle.leaf.specs.Told.{toldWalked};
 
 pub(crate) fn skip_value(
@@ -24,7 +25,7 @@ pub(crate) fn skip_value(
     struct_depth: usize,
     config: TConfiguration,
 ) -> Walked
-    ensures { λ r. ⌜ Answers config (now (bytes .entry)) (cursor .at) depth «struct_depth» (shapeOf «field_type») (toldWalked r) ⌝ }
+    ensures { λ r. ⌜ Answers binary config (now (bytes .entry)) (cursor .at) depth «struct_depth» «field_type» (toldWalked r) ⌝ }
 {
     let start = cursor.at;
     if depth == 0 {
@@ -48,7 +49,7 @@ fn skip_struct(
     config: TConfiguration,
 ) -> Walked
     requires { ⌜ 0 < depth ⌝ }
-    ensures { λ r. ⌜ Answers config (now (bytes .entry)) start depth «struct_depth» Shape.Fields (toldWalked r) ⌝ }
+    ensures { λ r. ⌜ EachAnswers Shape.Fields config (now (bytes .entry)) start depth «struct_depth» (toldWalked r) ⌝ }
 {
     match nesting::read_struct_begin(bytes, Cursor { at: start }, struct_depth, config) {
         DepthRead::Value(inner, _) => {
@@ -90,19 +91,16 @@ fn skip_list(
     config: TConfiguration,
 ) -> Walked
     requires { ⌜ 0 < depth ⌝ }
-    ensures { λ r. ⌜ Answers config (now (bytes .entry)) start depth «struct_depth» Shape.Items (toldWalked r) ⌝ }
+    ensures { λ r. ⌜ EachAnswers Shape.Items config (now (bytes .entry)) start depth «struct_depth» (toldWalked r) ⌝ }
 {
     match read::container::read_list_begin(bytes, Cursor { at: start }, config) {
         ListRead::Value(list, first) => {
             let element_type = list.element_type;
             let size = list.size;
-            let bits = sign::bits32(size);
-            let len = bits as usize;
-            let begin = first.at;
-            let run = leaf::skip_run(bytes, begin, element_type, bits, depth - 1);
-            let mut at = run.end;
-            let mut count = run.elements + 1;
-            let mut i = run.elements;
+            let len = sign::bits32(size) as usize;
+            let mut at = first.at;
+            let mut count: usize = 1;
+            let mut i: usize = 0;
             while i < len {
                 let cursor = Cursor { at };
                 match skip_value(bytes, cursor, element_type, depth - 1, struct_depth, config) {
@@ -130,7 +128,7 @@ fn skip_map(
     config: TConfiguration,
 ) -> Walked
     requires { ⌜ 0 < depth ⌝ }
-    ensures { λ r. ⌜ Answers config (now (bytes .entry)) start depth «struct_depth» Shape.Pairs (toldWalked r) ⌝ }
+    ensures { λ r. ⌜ EachAnswers Shape.Pairs config (now (bytes .entry)) start depth «struct_depth» (toldWalked r) ⌝ }
 {
     match read::container::read_map_begin(bytes, Cursor { at: start }, config) {
         MapRead::Value(map, first) => {

@@ -26,17 +26,19 @@ use Rattle.text.proofs.Texts as texts
 use Rattle.read.specs.Headers.{typeAt, fieldAt, countAt, listAt}
 use Rattle.nesting.specs.Structs.{structBeginAt}
 use Rattle.message.specs.Messages.{messageTypeAt, sequenceAt, versionedAt, unversionedAt, messageAt}
-use Rattle.tree.specs.Answers.{Outcome, SkipAnswers, Stands, IsCut}
+use Rattle.tree.specs.Answers.{Outcome, ended, cut-off, SkipAnswers, Stands, IsCut}
 use Rattle.tree.proofs.Only.{skip-only}
-use Rattle.tree.proofs.Steps as steps
+use Rattle.binary.specs.Binary.{binary}
+use Rattle.binary.proofs.Binary.{binary-reads}
+use Rattle.binary.proofs.Steps as steps
 use Rattle.skip.specs.Skips.{toldSkipped}
 use Rattle.write_headers.specs.Outputs.{fieldOutput}
 use Rattle.framed.specs.Frames.{frameAt}
 use Rattle.table.specs.Table.{table, Every, Settled, skipped, versioned, unversioned, two-bytes, voids, i32-field}
 
 -- an answer that the promise admits is the only one
-the-one : (t : TType) (d : ℕ) (s : List ℕ) (x : Outcome) → SkipAnswers defaultLimits s 0 d 0 t x → Settled (skipped t d s x)
-the-one t d s x a = (a, λ r h. skip-only defaultLimits s 0 d 0 t (toldSkipped r) x (h .answers) a)
+the-one : (t : TType) (d : ℕ) (s : List ℕ) (x : Outcome) → SkipAnswers binary defaultLimits s 0 d 0 t x → Settled (skipped t d s x)
+the-one t d s x a = (a, λ r h. skip-only binary binary-reads defaultLimits s 0 d 0 t (toldSkipped r) x (h .answers) a)
 
 -- "ab" is UTF-8 to its end
 ab : 2 ≡ upTo (0x61 ∷ 0x62 ∷ [])
@@ -60,47 +62,52 @@ begun : (d : ℕ) → 0 < d → steps.ListLoop defaultLimits two-bytes 0 d 0 T.I
 unfolding listAt typeAt countAt sizeAt numberAt itemAt big within refuseIf andThen
 begun d deep = steps.list-start defaultLimits two-bytes 0 d 0 (octets two-bytes (search needs)) deep refl
 
-two-elements : Stands defaultLimits two-bytes 0 2 0 Sh.Items 7 3
+two-elements : Stands binary defaultLimits two-bytes 0 2 0 T.List 7 3
 unfolding within refuseIf
 two-elements =
-    steps.list-stands defaultLimits two-bytes 0 2 0 (octets two-bytes (search needs))
+    let o = octets two-bytes (search needs) in
+    steps.list-stands defaultLimits two-bytes 0 2 0 T.List refl o
     (steps.list-more defaultLimits two-bytes 0 2 0
     (steps.list-more defaultLimits two-bytes 0 2 0 (begun 2 (omega arith)) (omega arith)
-    (steps.fixed-stands defaultLimits two-bytes 5 1 0 1 {e = 6} (λ z. omega arith) (omega arith) refl)) (omega arith)
-    (steps.fixed-stands defaultLimits two-bytes 6 1 0 1 {e = 7} (λ z. omega arith) (omega arith) refl))
+    (steps.leaf-answers defaultLimits two-bytes 5 1 0 o T.I08 (Sh.Fixed 1) (λ z. omega arith) refl refl {x = ended 6 1} refl)) (omega arith)
+    (steps.leaf-answers defaultLimits two-bytes 6 1 0 o T.I08 (Sh.Fixed 1) (λ z. omega arith) refl refl {x = ended 7 1} refl))
     (omega arith)
 
-no-depth-left : IsCut defaultLimits two-bytes 0 1 0 Sh.Items 10 5 2
+no-depth-left : IsCut binary defaultLimits two-bytes 0 1 0 T.List 10 5 2
 no-depth-left =
-    steps.list-cut defaultLimits two-bytes 0 1 0 (begun 1 (omega arith)) (omega arith) (steps.too-deep defaultLimits two-bytes 5 0 0 (Sh.Fixed 1) refl)
+    steps.list-cut defaultLimits two-bytes 0 1 0 T.List refl (begun 1 (omega arith)) (omega arith)
+    (steps.deep-answers defaultLimits two-bytes 5 0 0 T.I08 {x = cut-off 10 5 1} refl refl)
 
-no-elements : Stands defaultLimits (voids 0) 0 1 0 Sh.Items 5 1
+no-elements : Stands binary defaultLimits (voids 0) 0 1 0 T.List 5 1
 unfolding listAt typeAt countAt sizeAt numberAt itemAt big within refuseIf andThen
 no-elements =
     let o = octets (voids 0) (search needs) in
-    steps.list-stands defaultLimits (voids 0) 0 1 0 o (steps.list-start defaultLimits (voids 0) 0 1 0 o {t = T.Void} {size = pos 0} {first = 5} (omega arith) refl) (omega arith)
+    steps.list-stands defaultLimits (voids 0) 0 1 0 T.List refl o (steps.list-start defaultLimits (voids 0) 0 1 0 o {t = T.Void} {size = pos 0} {first = 5} (omega arith) refl) (omega arith)
 
-a-void : IsCut defaultLimits (voids 1) 0 2 0 Sh.Items 12 5 2
+a-void : IsCut binary defaultLimits (voids 1) 0 2 0 T.List 12 5 2
 unfolding listAt typeAt countAt sizeAt numberAt itemAt big within refuseIf andThen
 a-void =
-    steps.list-cut defaultLimits (voids 1) 0 2 0
-    (steps.list-start defaultLimits (voids 1) 0 2 0 (octets (voids 1) (search needs)) {t = T.Void} {size = pos 1} {first = 5} (omega arith) refl) (omega arith)
-    (steps.own-refused defaultLimits (voids 1) 5 1 0 Sh.Unfit 12 5 (λ z. omega arith) refl)
+    let o = octets (voids 1) (search needs) in
+    steps.list-cut defaultLimits (voids 1) 0 2 0 T.List refl
+    (steps.list-start defaultLimits (voids 1) 0 2 0 o {t = T.Void} {size = pos 1} {first = 5} (omega arith) refl) (omega arith)
+    (steps.leaf-answers defaultLimits (voids 1) 5 1 0 o T.Void Sh.Unfit (λ z. omega arith) refl refl {x = cut-off 12 5 1} refl)
 
 -- W9: the field of four bytes, then the stop
-a-struct : Stands defaultLimits i32-field 0 2 0 Sh.Fields 8 2
+a-struct : Stands binary defaultLimits i32-field 0 2 0 T.Struct 8 2
 unfolding structBeginAt fieldAt typeAt numberAt itemAt big stayAt within refuseIf andThen
 a-struct =
-    steps.struct-stands defaultLimits i32-field 0 2 0 7 2 {t = T.Stop} {id = pos 0}
+    steps.struct-stands defaultLimits i32-field 0 2 0 T.Struct refl 7 2 {t = T.Stop} {id = pos 0}
     (steps.struct-more defaultLimits i32-field 0 2 0 0 1 {t = T.I32} {id = pos 1} {p = 3} {e = 7}
     (steps.struct-start defaultLimits i32-field 0 2 0 {inner = 1} {p = 0} (omega arith) refl) refl refl
-    (steps.fixed-stands defaultLimits i32-field 3 1 1 4 {e = 7} (λ z. omega arith) (omega arith) refl))
+    (steps.leaf-answers defaultLimits i32-field 3 1 1 (octets i32-field (search needs)) T.I32 (Sh.Fixed 4) (λ z. omega arith) refl refl {x = ended 7 1} refl))
     refl refl
 
 -- W10: the size is negative
-negative : IsCut defaultLimits (0xFF ∷ 0xFF ∷ 0xFF ∷ 0xFF ∷ []) 0 64 0 Sh.Text 6 0 1
+negative : IsCut binary defaultLimits (0xFF ∷ 0xFF ∷ 0xFF ∷ 0xFF ∷ []) 0 64 0 T.String 6 0 1
 unfolding sizedAt limitedAt sizeAt numberAt itemAt big within refuseIf andThen
-negative = steps.own-refused defaultLimits (0xFF ∷ 0xFF ∷ 0xFF ∷ 0xFF ∷ []) 0 64 0 Sh.Text 6 0 (λ z. omega arith) refl
+negative =
+    let s : List ℕ = 0xFF ∷ 0xFF ∷ 0xFF ∷ 0xFF ∷ [] in
+    steps.leaf-answers defaultLimits s 0 64 0 (octets s (search needs)) T.String Sh.Text (λ z. omega arith) refl refl {x = cut-off 6 0 1} refl
 
 pub every-case : Every table
 unfolding messageAt versionedAt unversionedAt messageTypeAt sequenceAt frameAt sizedAt limitedAt sizeAt numberAt itemAt stayAt within refuseIf andThen big bytesOf fieldOutput writeAt roomFor laid
@@ -111,9 +118,9 @@ every-case = (
     (
       (refl, refl),
       (
-        the-one T.Bool 1 (0x02 ∷ []) _ (steps.fixed-stands defaultLimits (0x02 ∷ []) 0 1 0 1 (λ z. omega arith) (omega arith) refl),
+        the-one T.Bool 1 (0x02 ∷ []) _ (steps.leaf-answers defaultLimits (0x02 ∷ []) 0 1 0 (octets (0x02 ∷ []) (search needs)) T.Bool (Sh.Fixed 1) (λ z. omega arith) refl refl {x = ended 1 1} refl),
         (
-          the-one T.Bool 0 (0x02 ∷ []) _ (steps.too-deep defaultLimits (0x02 ∷ []) 0 0 0 (Sh.Fixed 1) refl),
+          the-one T.Bool 0 (0x02 ∷ []) _ (steps.deep-answers defaultLimits (0x02 ∷ []) 0 0 0 T.Bool {x = cut-off 10 0 1} refl refl),
           (
             the-one T.List 2 two-bytes _ two-elements,
             (

@@ -14,6 +14,7 @@ use Rattle.text.specs.Texts.{span, partOf}
 use Rattle.message.specs.Messages.{message, messageAt, nameOf}
 use Rattle.message.specs.declared.TMessageIdentifier.{TMessageIdentifier}
 use Rattle.tree.specs.Answers.{Outcome, ended, cut-off, SkipAnswers}
+use Rattle.binary.specs.Binary.{binary}
 use Rattle.skip.specs.Skips.{toldSkipped, SkipSays}
 use Rattle.skip.specs.declared.till_depth.Skipped.{Skipped}
 use Rattle.write_headers.specs.Outputs.{fieldOutput}
@@ -34,7 +35,7 @@ pub data Case : Type 0 where
 abbrev pub Settled : Case → Type 0
 Settled (message-read strict s name x) = (messageAt strict (defaultLimits .«max_string_size») s 0 ≡ x) × (partOf s (nameOf x) ≡ name)
 Settled (skipped t depth s x) =
-    SkipAnswers defaultLimits s 0 depth 0 t x × ((r : Skipped) → SkipSays defaultLimits s 0 depth 0 t r → toldSkipped r ≡ x)
+    SkipAnswers binary defaultLimits s 0 depth 0 t x × ((r : Skipped) → SkipSays defaultLimits s 0 depth 0 t r → toldSkipped r ≡ x)
 Settled (frame-read s x) = frameAt (defaultLimits .«max_frame_size») s 0 ≡ x
 Settled (field-written t id old new next) = writeAt (fieldOutput t id 0) old 0 ≡ gives new next
 

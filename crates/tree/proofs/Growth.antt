@@ -1,49 +1,35 @@
 -- More room, header by header: what a header gives it goes on giving, and what it refuses it goes on refusing unless the refusal names
 -- what was given room. Assumes nothing.
-use Prim.Native.Nat.{ℕ, _+_, _-_, _*_, _≤_}
+use Prim.Native.Nat.{ℕ, _+_, _-_, _≤_}
 use mathlib.Core.Path.{_≡_, refl, sym, ap, subst, _∙_}
-use mathlib.Core.Bool.{Bool, true, false, cond}
+use mathlib.Core.Bool.{Bool, true, false}
 use mathlib.Core.Logic.{_⊎_, inl, inr}
 use mathlib.Core.List.{List, [], _++_, append-nil}
-use lib.IntN.{ℤ, pos, natAbs}
-use lib.Signed.{ltZ}
 use lib.Dec.{ltb, eqb}
 use lib.ListN.{length, take, drop, length-append, length-drop}
 use lib.Seq.{take-append-le, drop-append-le}
-use mir.Syntax.{w16, w32}
-use mir.Val.{toZ}
 use native.Mathlib.Omega.{arith}
-use borrow.Author.Tests.{le-ltb, ltb-false, eq-eqb, ne-eqb, eqb-false}
-use Rattle.wire.specs.Answer.{Answer, gives, refused, refuseIf, andThen, judged, within, itemAt}
-use Rattle.codes.specs.Codes.{isStop, leastSize}
-use Rattle.codes.specs.declared.TType.{TType}
-use Rattle.codes.specs.declared.shape.Shape.{Shape}
-use Rattle.codes.specs.declared.shape.Shape.the-variants as Sh
-use Rattle.wire.proofs.Answers.{passed, went}
+use borrow.Author.Tests.{le-ltb, ltb-false, eq-eqb}
+use Rattle.wire.specs.Answer.{Answer, gives, refused, refuseIf, andThen, mapped, within, itemAt}
 use Rattle.wire.proofs.Within.{inside}
-use Rattle.number.specs.Reads.{numberAt, byteAt, i16At, i32At}
+use Rattle.number.specs.Reads.{numberAt}
 use Rattle.config.specs.Limits.{above, reached, Raised, Roomier}
 use Rattle.config.specs.declared.limit.Limit.{Limit}
 use Rattle.config.specs.declared.configuration.TConfiguration.{TConfiguration}
 use Rattle.config.proofs.Room.{still-within, still-below, reached-later}
-use Rattle.text.specs.Texts.{sizeAt, sizedAt, bytesAt, limitedAt}
-use Rattle.text.proofs.Texts.{limited-is}
-use Rattle.text.specs.declared.Body.the-variants as Body-of
-use Rattle.read.specs.Headers.{typeAt, field, fieldAt, countAt, listAt, mapAt}
 use Rattle.nesting.specs.Structs.{structBeginAt}
-use Rattle.tree.specs.Answers.{shapeOwn, ownAt}
 use Rattle.tree.specs.Room.{Unnamed}
-use Rattle.tree.proofs.Heads.{clash, number-is, type-is}
+use Rattle.tree.proofs.Heads.{clash}
 
 pub record Grows {A : Type 0} (K : ℕ → Type 0) (m m' : Answer A) : Type 0 where
   pub given : (v : A) (q : ℕ) → gives v q ≡ m → gives v q ≡ m'
   pub kept : (n p : ℕ) → K n → refused n p ≡ m → refused n p ≡ m'
 
 module _ (K : ℕ → Type 0) where
-  grows-same : {A : Type 0} (m : Answer A) → Grows K m m
+  pub grows-same : {A : Type 0} (m : Answer A) → Grows K m m
   grows-same m = record { given = λ v q e. e; kept = λ n p k e. e }
 
-  grows-if : {A : Type 0} (b b' : Bool) (k at : ℕ) (rest rest' : Answer A) → (b ≡ false → b' ≡ false) → (K k → b ≡ true → b' ≡ true)
+  pub grows-if : {A : Type 0} (b b' : Bool) (k at : ℕ) (rest rest' : Answer A) → (b ≡ false → b' ≡ false) → (K k → b ≡ true → b' ≡ true)
       → (b ≡ false → Grows K rest rest') → Grows K (refuseIf b k at rest) (refuseIf b' k at rest')
   unfolding refuseIf
   grows-if true true k at rest rest' f t g = grows-same _
@@ -56,7 +42,7 @@ module _ (K : ℕ → Type 0) where
   grows-if false false k at rest rest' f t g = g refl
 
   -- two tests with one number: where the first no longer holds, the second does
-  grows-either : {A : Type 0} (b b' c : Bool) (k at : ℕ) (rest : Answer A) → (b ≡ false → b' ≡ false) → (K k → b ≡ true → b' ≡ false → c ≡ true)
+  pub grows-either : {A : Type 0} (b b' c : Bool) (k at : ℕ) (rest : Answer A) → (b ≡ false → b' ≡ false) → (K k → b ≡ true → b' ≡ false → c ≡ true)
       → Grows K (refuseIf b k at (refuseIf c k at rest)) (refuseIf b' k at (refuseIf c k at rest))
   unfolding refuseIf
   grows-either true true c k at rest f t = grows-same _
@@ -70,12 +56,12 @@ module _ (K : ℕ → Type 0) where
   grows-either false false c k at rest f t = grows-same _
 
   -- a test against a limit that was raised or removed, of which a refusal says that it was kept
-  grows-limit : {A : Type 0} (n : ℕ) (l l' : Limit) (k at : ℕ) (rest rest' : Answer A) → Raised l l' → (K k → l ≡ l') → Grows K rest rest'
+  pub grows-limit : {A : Type 0} (n : ℕ) (l l' : Limit) (k at : ℕ) (rest rest' : Answer A) → Raised l l' → (K k → l ≡ l') → Grows K rest rest'
       → Grows K (refuseIf (above n l) k at rest) (refuseIf (above n l') k at rest')
   grows-limit n l l' k at rest rest' up keep g =
       grows-if (above n l) (above n l') k at rest rest' (still-within n l l' up) (λ h t. ap (above n) (sym (keep h)) ∙ t) (λ t. g)
 
-  grows-then : {A B : Type 0} (m m' : Answer A) (rest rest' : A → ℕ → Answer B) → Grows K m m'
+  pub grows-then : {A B : Type 0} (m m' : Answer A) (rest rest' : A → ℕ → Answer B) → Grows K m m'
       → ((v : A) (q : ℕ) → gives v q ≡ m → Grows K (rest v q) (rest' v q)) → Grows K (andThen m rest) (andThen m' rest')
   unfolding andThen
   grows-then (gives v q) m' rest rest' g on =
@@ -89,9 +75,10 @@ module _ (K : ℕ → Type 0) where
         kept = λ n p k e. let i : n ≡ j = cc in let r : p ≡ q = cc in rw (← g .kept j q (subst K i k) refl) (cc);
       }
 
-  grows-judged : {A : Type 0} (m m' : Answer A) → Grows K m m' → Grows K (judged m) (judged m')
-  grows-judged (gives v q) m' g = rw (← g .given v q refl) (grows-same (gives tt q))
-  grows-judged (refused j q) m' g =
+  -- what is seen of an answer grows as it does
+  pub grows-mapped : {A B : Type 0} (f : A → B) (m m' : Answer A) → Grows K m m' → Grows K (mapped f m) (mapped f m')
+  grows-mapped f (gives v q) m' g = rw (← g .given v q refl) (grows-same (gives (f v) q))
+  grows-mapped f (refused j q) m' g =
       record {
         given = λ w r e. clash (cc);
         kept = λ n p k e. let i : n ≡ j = cc in let r : p ≡ q = cc in rw (← g .kept j q (subst K i k) refl) (cc);
@@ -99,10 +86,10 @@ module _ (K : ℕ → Type 0) where
 
 -- bytes appended behind s
 module _ (K : ℕ → Type 0) (s x : List ℕ) (short : K 1 → x ≡ []) where
-  no-bytes : K 1 → s ++ x ≡ s
+  pub no-bytes : K 1 → s ++ x ≡ s
   no-bytes k = ap (λ (y : List ℕ). s ++ y) (short k) ∙ append-nil s
 
-  within-grows : (at w : ℕ) → at ≤ length s → Grows K (within s at w) (within (s ++ x) at w)
+  pub within-grows : (at w : ℕ) → at ≤ length s → Grows K (within s at w) (within (s ++ x) at w)
   unfolding within
   within-grows at w h =
       let longer : length s ≤ length (s ++ x) = simp length-append (omega arith) in
@@ -112,45 +99,17 @@ module _ (K : ℕ → Type 0) (s x : List ℕ) (short : K 1 → x ≡ []) where
       (λ k f. rw (no-bytes k) f)
       (λ f. grows-same K _))
 
-  item-same : (at w q : ℕ) → gives tt q ≡ within s at w → take w (drop at (s ++ x)) ≡ take w (drop at s)
+  pub item-same : (at w q : ℕ) → gives tt q ≡ within s at w → take w (drop at (s ++ x)) ≡ take w (drop at s)
   item-same at w q e =
       let i = inside s at w e in
       ap (take w) (drop-append-le at s x (omega (arith, i .room))) ∙ take-append-le w (drop at s) x (simp length-drop (omega (arith, i .room)))
 
-  number-grows : {A : Type 0} (w : ℕ) (f : ℕ → A) (at : ℕ) → at ≤ length s → Grows K (numberAt w f s at) (numberAt w f (s ++ x) at)
+  pub number-grows : {A : Type 0} (w : ℕ) (f : ℕ → A) (at : ℕ) → at ≤ length s → Grows K (numberAt w f s at) (numberAt w f (s ++ x) at)
   unfolding numberAt itemAt
   number-grows w f at h =
       grows-then K (itemAt s at w) (itemAt (s ++ x) at w) _ _
       (grows-then K (within s at w) (within (s ++ x) at w) _ _ (within-grows at w h) (λ u q e. rw (item-same at w q e) (grows-same K _)))
       (λ b q e. grows-same K _)
-
-  type-grows : (at : ℕ) → at ≤ length s → Grows K (typeAt s at) (typeAt (s ++ x) at)
-  unfolding typeAt
-  type-grows at h = grows-then K (byteAt s at) (byteAt (s ++ x) at) _ _ (number-grows 1 (λ (n : ℕ). n) at h) (λ b q e. grows-same K _)
-
-  pub field-grows : (at : ℕ) → at ≤ length s → Grows K (fieldAt s at) (fieldAt (s ++ x) at)
-  unfolding fieldAt
-  field-grows at h =
-      grows-then K (typeAt s at) (typeAt (s ++ x) at) _ _ (type-grows at h) (λ t q e. by-stop t q (type-is s at e .part .within) (isStop t))
-    where
-      by-stop : (t : TType) (q : ℕ) → q ≤ length s → (b : Bool)
-          → Grows K (cond b (gives (field t (pos 0)) q) (andThen (i16At s q) λ id end. gives (field t id) end))
-          (cond b (gives (field t (pos 0)) q) (andThen (i16At (s ++ x) q) λ id end. gives (field t id) end))
-      by-stop t q i true = grows-same K _
-      by-stop t q i false = grows-then K (i16At s q) (i16At (s ++ x) q) _ _ (number-grows 2 (toZ w16) q i) (λ id r e. grows-same K _)
-
-  size-grows : (at : ℕ) → at ≤ length s → Grows K (sizeAt s at) (sizeAt (s ++ x) at)
-  unfolding sizeAt
-  size-grows at h = grows-then K (i32At s at) (i32At (s ++ x) at) _ _ (number-grows 4 (toZ w32) at h) (λ v q e. grows-same K _)
-
-size-onward : (s : List ℕ) (at : ℕ) (v : ℤ) (q : ℕ) → gives v q ≡ sizeAt s at → q ≤ length s
-unfolding sizeAt
-size-onward s at v q e =
-    let a = went (i32At s at) _ e in
-    let b = passed (ltZ (a .value) (pos 0)) 6 at (gives (a .value) (a .place)) (a .on) in
-    let i = number-is 4 (toZ w32) s at (a .gave) in
-    let same : q ≡ a .place = cc (b .gave) in
-    omega (arith, i .end, i .room)
 
 -- an 11 whose limit is not reached below 65,535 comes at that depth
 by-cap : (sd : ℕ) (o w : Limit) → (o ≡ w) ⊎ (reached 65534 o ≡ false) → reached sd o ≡ true → reached sd w ≡ false → sd ≤ 65535 → eqb sd 65535 ≡ true
@@ -161,39 +120,6 @@ by-cap sd o w (inr f) t u h = eq-eqb sd 65535 (omega (arith, reached-later 65534
 module _ (old new : TConfiguration) (r : Roomier old new) (d e : ℕ) (more : d ≤ e) (s x : List ℕ) where
   abbrev K : ℕ → Type 0
   K = Unnamed old new d e x
-
-  text-grows : (at : ℕ) → at ≤ length s → Grows K (bytesAt (old .«max_string_size») s at) (bytesAt (new .«max_string_size») (s ++ x) at)
-  unfolding sizedAt limitedAt
-  text-grows at h =
-      grows-then K (limitedAt Body-of.Text (old .«max_string_size») s at) (limitedAt Body-of.Text (new .«max_string_size») (s ++ x) at) _ _
-      (grows-then K (sizeAt s at) (sizeAt (s ++ x) at) _ _ (size-grows K s x (λ k. k .short refl) at h) (λ v q f.
-      grows-limit K (natAbs v) (old .«max_string_size») (new .«max_string_size») 7 at _ _ (r .string) (λ k. k .string refl) (grows-same K (gives v q))))
-      (λ v q f.
-      grows-then K (within s q (natAbs v)) (within (s ++ x) q (natAbs v)) _ _
-      (within-grows K s x (λ k. k .short refl) q (natAbs v) (size-onward s at v q (limited-is Body-of.Text (old .«max_string_size») s at f .size))) (λ u p g. grows-same K _))
-
-  count-grows : (least at : ℕ) → at ≤ length s → Grows K (countAt old least s at) (countAt new least (s ++ x) at)
-  unfolding countAt
-  count-grows least at h =
-      grows-then K (sizeAt s at) (sizeAt (s ++ x) at) _ _ (size-grows K s x (λ k. k .short refl) at h) (λ v q f.
-      grows-limit K (natAbs v) (old .«max_container_size») (new .«max_container_size») 8 at _ _ (r .container) (λ k. k .container refl)
-      (grows-limit K (natAbs v * least) (old .«max_message_size») (new .«max_message_size») 9 at _ _ (r .message) (λ k. k .message refl)
-      (grows-same K (gives v q))))
-
-  pub list-grows : (at : ℕ) → at ≤ length s → Grows K (listAt old s at) (listAt new (s ++ x) at)
-  unfolding listAt
-  list-grows at h =
-      grows-then K (typeAt s at) (typeAt (s ++ x) at) _ _ (type-grows K s x (λ k. k .short refl) at h) (λ t q f.
-      grows-then K (countAt old (leastSize t) s q) (countAt new (leastSize t) (s ++ x) q) _ _
-      (count-grows (leastSize t) q (type-is s at f .part .within)) (λ v p g. grows-same K _))
-
-  pub map-grows : (at : ℕ) → at ≤ length s → Grows K (mapAt old s at) (mapAt new (s ++ x) at)
-  unfolding mapAt
-  map-grows at h =
-      grows-then K (typeAt s at) (typeAt (s ++ x) at) _ _ (type-grows K s x (λ k. k .short refl) at h) (λ k q f.
-      grows-then K (typeAt s q) (typeAt (s ++ x) q) _ _ (type-grows K s x (λ k. k .short refl) q (type-is s at f .part .within)) (λ v p g.
-      grows-then K (countAt old (leastSize k + leastSize v) s p) (countAt new (leastSize k + leastSize v) (s ++ x) p) _ _
-      (count-grows (leastSize k + leastSize v) p (type-is s q g .part .within)) (λ n t i. grows-same K _)))
 
   pub struct-grows : (sd at : ℕ) → at ≤ length s
       → Grows K (structBeginAt (old .«max_recursion_depth») sd s at) (structBeginAt (new .«max_recursion_depth») sd (s ++ x) at)
@@ -210,19 +136,3 @@ module _ (old new : TConfiguration) (r : Roomier old new) (d e : ℕ) (more : d 
       grows-if K (ltb 65535 sd) (ltb 65535 sd) 20 at (refuseIf (reached sd o) 11 at last) (refuseIf (reached sd w) 11 at last) (λ g. g) (λ k g. g) (λ g.
       grows-either K (reached sd o) (reached sd w) (eqb sd 65535) 11 at (gives (sd + 1) at) (still-below sd o w (r .depth))
       (λ k t u. by-cap sd o w (k .structs refl) t u (ltb-false 65535 sd g))))
-
-  shape-grows : (sd : ℕ) (sh : Shape) (at : ℕ) → at ≤ length s → Grows K (shapeOwn old sd sh s at) (shapeOwn new sd sh (s ++ x) at)
-  shape-grows sd (Sh.Fixed w) at h = within-grows K s x (λ k. k .short refl) at w h
-  shape-grows sd Sh.Text at h = grows-judged K _ _ (text-grows at h)
-  shape-grows sd Sh.Fields at h = grows-judged K _ _ (struct-grows sd at h)
-  shape-grows sd Sh.Items at h = grows-judged K _ _ (list-grows at h)
-  shape-grows sd Sh.Pairs at h = grows-judged K _ _ (map-grows at h)
-  shape-grows sd Sh.Unfit at h = grows-same K _
-
-  pub own-grows : (sd : ℕ) (sh : Shape) (at : ℕ) → at ≤ length s → Grows K (ownAt old d sd sh s at) (ownAt new e sd sh (s ++ x) at)
-  unfolding ownAt
-  own-grows sd sh at h =
-      grows-if K _ _ 10 at _ _
-      (λ f. let g = eqb-false d 0 f in ne-eqb e 0 (λ z. g (omega arith)))
-      (λ k f. ap (λ (n : ℕ). eqb n 0) (sym (k .depth refl)) ∙ f)
-      (λ f. shape-grows sd sh at h)

@@ -1,6 +1,10 @@
 pub mod Bounds
+pub mod Demands
+pub mod Entry
 pub mod Growth
 pub mod Heads
+pub mod Laws
+pub mod Mapped
 pub mod Model
 pub mod MoreRoom
 pub mod Only

@@ -4,13 +4,16 @@ use Prim.Native.Nat.{ℕ, _+_, _-_, _≤_, _<_}
 use mathlib.Core.Path.{_≡_, sym, ap, ap₂, subst, _∙_}
 use mathlib.Core.List.{List, [], _∷_, _++_}
 use lib.ListN.{length, getD, take, drop, length-append, length-take, length-drop}
-use lib.Seq.{take-take, take-append-seam, drop-append-seam, drop-at, length-take-le, take-add, drop-drop, drop-cons, take-append-le, drop-append-le}
+use lib.Seq.{take-take, take-append-seam, drop-append-seam, drop-at, length-take-le, take-all, take-add, drop-drop, drop-cons, take-append-le, drop-append-le}
 use native.Mathlib.Omega.{arith}
 use native.Mathlib.Nat.{add-sub-cancel-left, sub-self}
 use Rattle.tree.specs.Part.{Part}
 
 pub part-none : (s : List ℕ) (a : ℕ) → a ≤ length s → Part s a a []
 part-none s a h = record { from = omega arith; within = h; bytes = rw (sub-self a) }
+
+pub part-whole : (s : List ℕ) → Part s 0 (length s) s
+part-whole s = record { from = omega arith; within = omega arith; bytes = take-all (length s - 0) s (omega arith) }
 
 pub part-run : (s : List ℕ) (a n : ℕ) → a + n ≤ length s → Part s a (a + n) (take n (drop a s))
 part-run s a n h = record { from = omega arith; within = h; bytes = rw (add-sub-cancel-left a n) }

@@ -1,54 +1,44 @@
--- What a skip answers: a tree where it accepts, and a tree that is cut off at the place where it refuses.
+-- What a skip answers, in any encoding: a tree where it accepts, and a tree that is cut off at the place where it refuses.
 use Prim.Native.Nat.{ℕ, _+_, _-_, _<_, _≤_}
 use mathlib.Core.Path.{_≡_}
-use mathlib.Core.Bool.{false}
 use mathlib.Core.List.{List}
-use lib.ListN.{length}
 use lib.Dec.{eqb, ltb}
-use lib.IntN.{ℤ, natAbs}
-use Rattle.wire.specs.Answer.{Answer, gives, refused, refuseIf, judged, within}
-use Rattle.codes.specs.Codes.{isStop}
-use Rattle.codes.specs.Shapes.{shapeOf}
-use Rattle.codes.specs.declared.TType.{TType}
-use Rattle.codes.specs.declared.shape.Shape.{Shape}
-use Rattle.codes.specs.declared.shape.Shape.the-variants as Sh
+use lib.ListN.{length}
+use Rattle.wire.specs.Answer.{Answer, gives, refused, refuseIf, judged}
 use Rattle.config.specs.declared.configuration.TConfiguration.{TConfiguration}
-use Rattle.text.specs.Texts.{bytesAt}
-use Rattle.read.specs.Headers.{field, fieldAt, list, listAt, map, mapAt}
 use Rattle.nesting.specs.Structs.{depthEntry, structBeginAt}
 use Rattle.tree.specs.Part.{Part}
-use Rattle.tree.specs.Tree.{Tree, Fields, Trees, Pairs, layout, fieldsLayout, treesLayout, pairsLayout, valuesOf, fieldsValues, treesValues, pairsValues, countOf, pairsOf, Fits, FieldsFit, TreesFit, PairsFit}
+use Rattle.tree.specs.Coding.{View, leaf, fields, items, pairs, Items, Paired, going, Coding}
+use Rattle.tree.specs.Tree.{Tree, Fields, Trees, Pairs, layout, fieldsLayout, treesLayout, pairsLayout, valuesOf, fieldsValues, treesValues, pairsValues, countOf, pairsOf, stateOf, Fits, FieldsFit, TreesFit, PairsFit}
 
 -- The refusals that are a value's own, before any value in it begins: "depth 0 is 10; Stop, Void and Utf7 are 12; a scalar or a UUID passes its
 -- bytes; a string its length and body, no UTF-8 check; a struct does the struct begin …; a container reads its header …"
-abbrev pub shapeOwn : TConfiguration → ℕ → Shape → List ℕ → ℕ → Answer Unit
-shapeOwn c sd (Sh.Fixed n) s at = within s at n
-shapeOwn c sd Sh.Text s at = judged (bytesAt (c .«max_string_size») s at)
-shapeOwn c sd Sh.Fields s at = judged (structBeginAt (c .«max_recursion_depth») sd s at)
-shapeOwn c sd Sh.Items s at = judged (listAt c s at)
-shapeOwn c sd Sh.Pairs s at = judged (mapAt c s at)
-shapeOwn c sd Sh.Unfit s at = refused 12 at
+abbrev pub viewOwn : (C : Coding) → TConfiguration → ℕ → C .Kind → List ℕ → ℕ → View → Answer Unit
+viewOwn C c sd k s at leaf = C .leafAt c k s at
+viewOwn C c sd k s at fields = judged (structBeginAt (c .«max_recursion_depth») sd s at)
+viewOwn C c sd k s at items = judged (C .listAt c s at)
+viewOwn C c sd k s at pairs = judged (C .mapAt c s at)
 
-unfoldable pub ownAt : TConfiguration → ℕ → ℕ → Shape → List ℕ → ℕ → Answer Unit
-ownAt c d sd sh s at = refuseIf (eqb d 0) 10 at (shapeOwn c sd sh s at)
+unfoldable pub ownAt : (C : Coding) → TConfiguration → ℕ → ℕ → C .Kind → List ℕ → ℕ → Answer Unit
+ownAt C c d sd k s at = refuseIf (eqb d 0) 10 at (viewOwn C c sd k s at (C .view k))
 
 -- "cut off at the place: the values wholly passed before it, and those begun and not ended"
-pub data Cut : Type 0 where
+pub data Cut (K S : Type 0) : Type 0 where
   -- refused by itself
-  here : Cut
+  here : Cut K S
   -- a struct, after some fields: the next field's header is refused
-  head : Fields → Cut
+  head : Fields K S → Cut K S
   -- a struct, after some fields: the next field's value is cut off
-  field-value : Fields → Cut → Cut
+  field-value : Fields K S → Cut K S → Cut K S
   -- a list, after some elements: the next one is cut off
-  element : Trees → Cut → Cut
+  element : Trees K S → Cut K S → Cut K S
   -- a map, after some pairs: the next key is cut off
-  key : Pairs → Cut → Cut
+  key : Pairs K S → Cut K S → Cut K S
   -- a map, after some pairs and a key: its value is cut off
-  value : Pairs → Tree → Cut → Cut
+  value : Pairs K S → Tree K S → Cut K S → Cut K S
 
 -- the values begun: each that was passed, and each that is open
-unfoldable pub begunOf : Cut → ℕ
+unfoldable pub begunOf : {K S : Type 0} → Cut K S → ℕ
 begunOf here = 1
 begunOf (head fs) = 1 + fieldsValues fs
 begunOf (field-value fs x) = 1 + fieldsValues fs + begunOf x
@@ -56,83 +46,81 @@ begunOf (element ts x) = 1 + treesValues ts + begunOf x
 begunOf (key ps x) = 1 + pairsValues ps + begunOf x
 begunOf (value ps k x) = 1 + pairsValues ps + valuesOf k + begunOf x
 
--- a struct that is open after some fields, which end at a place of which `rest` holds
-pub record OpenStruct (c : TConfiguration) (s : List ℕ) (at d sd : ℕ) (sh : Shape) (fs : Fields) (rest : ℕ → Type 0) : Type 0 where
-  pub deep : 0 < d
-  pub shape : sh ≡ Sh.Fields
-  pub begun : gives (sd + 1) at ≡ structBeginAt (c .«max_recursion_depth») sd s at
-  pub mid : ℕ
-  pub part : Part s at mid (fieldsLayout fs)
-  pub fits : FieldsFit c (d - 1) (sd + 1) fs
-  pub next : rest mid
+module _ (C : Coding) (c : TConfiguration) (s : List ℕ) (at d sd : ℕ) (k : C .Kind) where
+  -- a struct that is open after some fields: of what they leave, and of the place where they end, `rest` holds
+  pub record OpenStruct (fs : Fields (C .Kind) (C .State)) (rest : C .State → ℕ → Type 0) : Type 0 where
+    pub deep : 0 < d
+    pub view : C .view k ≡ fields
+    pub begun : gives (sd + 1) at ≡ structBeginAt (c .«max_recursion_depth») sd s at
+    pub mid : ℕ
+    pub part : Part s at mid (fieldsLayout fs)
+    pub fits : FieldsFit C fs c (d - 1) (sd + 1)
+    pub next : rest (stateOf (C .start) fs) mid
 
--- a field's header, and of its type and its value's place `rest` holds
-pub record OpenField (s : List ℕ) (at : ℕ) (rest : TType → ℕ → Type 0) : Type 0 where
-  pub type : TType
-  pub id : ℤ
+  -- a list or a set that is open after some of its elements
+  pub record OpenList (ts : Trees (C .Kind) (C .State)) (rest : C .Kind → ℕ → Type 0) : Type 0 where
+    pub deep : 0 < d
+    pub view : C .view k ≡ items
+    pub says : Items (C .Kind)
+    pub first : ℕ
+    pub header : gives says first ≡ C .listAt c s at
+    pub more : countOf ts < says .size
+    pub mid : ℕ
+    pub part : Part s first mid (treesLayout ts)
+    pub fits : TreesFit C ts c (d - 1) sd (says .element)
+    pub next : rest (says .element) mid
+
+  -- a map that is open after some of its pairs
+  pub record OpenMap (ps : Pairs (C .Kind) (C .State)) (rest : C .Kind → C .Kind → ℕ → Type 0) : Type 0 where
+    pub deep : 0 < d
+    pub view : C .view k ≡ pairs
+    pub says : Paired (C .Kind)
+    pub first : ℕ
+    pub header : gives says first ≡ C .mapAt c s at
+    pub more : pairsOf ps < says .size
+    pub mid : ℕ
+    pub part : Part s first mid (pairsLayout ps)
+    pub fits : PairsFit C ps c (d - 1) sd (says .key) (says .value)
+    pub next : rest (says .key) (says .value) mid
+
+  -- a value wholly passed: a tree that stands at a place, and of its end `rest` holds
+  pub record Passed (t : Tree (C .Kind) (C .State)) (rest : ℕ → Type 0) : Type 0 where
+    pub end : ℕ
+    pub part : Part s at end (layout t)
+    pub fits : Fits C t c d sd k
+    pub next : rest end
+
+-- a field's header that is no Stop: of the kind that it says, and of its value's place, `rest` holds
+pub record OpenField (C : Coding) (st : C .State) (s : List ℕ) (at : ℕ) (rest : C .Kind → ℕ → Type 0) : Type 0 where
+  pub kind : C .Kind
+  pub after : C .State
   pub first : ℕ
-  pub header : gives (field type id) first ≡ fieldAt s at
-  pub going : isStop type ≡ false
-  pub next : rest type first
+  pub header : gives (going kind after) first ≡ C .fieldAt st s at
+  pub next : rest kind first
 
--- a list or a set that is open after some of its elements
-pub record OpenList (c : TConfiguration) (s : List ℕ) (at d sd : ℕ) (sh : Shape) (ts : Trees) (rest : TType → ℕ → Type 0) : Type 0 where
-  pub deep : 0 < d
-  pub shape : sh ≡ Sh.Items
-  pub type : TType
-  pub size : ℤ
-  pub first : ℕ
-  pub header : gives (list type size) first ≡ listAt c s at
-  pub more : countOf ts < natAbs size
-  pub mid : ℕ
-  pub part : Part s first mid (treesLayout ts)
-  pub fits : TreesFit c (d - 1) sd (shapeOf type) ts
-  pub next : rest type mid
-
--- a map that is open after some of its pairs
-pub record OpenMap (c : TConfiguration) (s : List ℕ) (at d sd : ℕ) (sh : Shape) (ps : Pairs) (rest : TType → TType → ℕ → Type 0) : Type 0 where
-  pub deep : 0 < d
-  pub shape : sh ≡ Sh.Pairs
-  pub key : TType
-  pub value : TType
-  pub size : ℤ
-  pub first : ℕ
-  pub header : gives (map key value size) first ≡ mapAt c s at
-  pub more : pairsOf ps < natAbs size
-  pub mid : ℕ
-  pub part : Part s first mid (pairsLayout ps)
-  pub fits : PairsFit c (d - 1) sd (shapeOf key) (shapeOf value) ps
-  pub next : rest key value mid
-
--- a value wholly passed: a tree that stands at a place, and of its end `rest` holds
-pub record Passed (c : TConfiguration) (s : List ℕ) (at d sd : ℕ) (sh : Shape) (t : Tree) (rest : ℕ → Type 0) : Type 0 where
-  pub end : ℕ
-  pub part : Part s at end (layout t)
-  pub fits : Fits c d sd sh t
-  pub next : rest end
-
--- a value of a shape at a place is cut off by the refusal of number n at place p
-unfoldable pub Faults : TConfiguration → List ℕ → ℕ → ℕ → ℕ → Shape → Cut → ℕ → ℕ → Type 0
-Faults c s at d sd sh here n p = refused n p ≡ ownAt c d sd sh s at
-Faults c s at d sd sh (head fs) n p = OpenStruct c s at d sd sh fs (λ m. refused n p ≡ fieldAt s m)
-Faults c s at d sd sh (field-value fs x) n p =
-    OpenStruct c s at d sd sh fs (λ m. OpenField s m (λ t q. Faults c s q (d - 1) (sd + 1) (shapeOf t) x n p))
-Faults c s at d sd sh (element ts x) n p = OpenList c s at d sd sh ts (λ t m. Faults c s m (d - 1) sd (shapeOf t) x n p)
-Faults c s at d sd sh (key ps x) n p = OpenMap c s at d sd sh ps (λ k v m. Faults c s m (d - 1) sd (shapeOf k) x n p)
-Faults c s at d sd sh (value ps t x) n p =
-    OpenMap c s at d sd sh ps (λ k v m. Passed c s m (d - 1) sd (shapeOf k) t (λ q. Faults c s q (d - 1) sd (shapeOf v) x n p))
+-- a value of a kind at a place is cut off by the refusal of number n at place p
+module _ (C : Coding) where
+  unfoldable pub Faults : Cut (C .Kind) (C .State) → TConfiguration → List ℕ → ℕ → ℕ → ℕ → C .Kind → ℕ → ℕ → Type 0
+  Faults here c s at d sd k n p = refused n p ≡ ownAt C c d sd k s at
+  Faults (head fs) c s at d sd k n p = OpenStruct C c s at d sd k fs (λ st m. refused n p ≡ C .fieldAt st s m)
+  Faults (field-value fs x) c s at d sd k n p =
+      OpenStruct C c s at d sd k fs (λ st m. OpenField C st s m (λ kind q. Faults x c s q (d - 1) (sd + 1) kind n p))
+  Faults (element ts x) c s at d sd k n p = OpenList C c s at d sd k ts (λ kind m. Faults x c s m (d - 1) sd kind n p)
+  Faults (key ps x) c s at d sd k n p = OpenMap C c s at d sd k ps (λ kk kv m. Faults x c s m (d - 1) sd kk n p)
+  Faults (value ps t x) c s at d sd k n p =
+      OpenMap C c s at d sd k ps (λ kk kv m. Passed C c s m (d - 1) sd kk t (λ q. Faults x c s q (d - 1) sd kv n p))
 
 -- Demand 2: "a value of that type stands within depth and limits, and ends where it ends", here at e; the count is the number of its values
-pub record Stands (c : TConfiguration) (s : List ℕ) (at d sd : ℕ) (sh : Shape) (e count : ℕ) : Type 0 where
-  pub tree : Tree
+pub record Stands (C : Coding) (c : TConfiguration) (s : List ℕ) (at d sd : ℕ) (k : C .Kind) (e count : ℕ) : Type 0 where
+  pub tree : Tree (C .Kind) (C .State)
   pub part : Part s at e (layout tree)
-  pub fits : Fits c d sd sh tree
+  pub fits : Fits C tree c d sd k
   pub counted : count ≡ valuesOf tree
 
 -- "A refusal's count is defined over a tree too, cut off at the place": the refusal of number n at p, and the number of values begun
-pub record IsCut (c : TConfiguration) (s : List ℕ) (at d sd : ℕ) (sh : Shape) (n p count : ℕ) : Type 0 where
-  pub cut : Cut
-  pub fault : Faults c s at d sd sh cut n p
+pub record IsCut (C : Coding) (c : TConfiguration) (s : List ℕ) (at d sd : ℕ) (k : C .Kind) (n p count : ℕ) : Type 0 where
+  pub cut : Cut (C .Kind) (C .State)
+  pub fault : Faults C cut c s at d sd k n p
   pub counted : count ≡ begunOf cut
 
 -- what a skip tells: the end and the count, or the refusal's number and place and the count
@@ -146,9 +134,9 @@ leafOutcome (gives u e) = ended e 1
 leafOutcome (refused n p) = cut-off n p 1
 
 -- the one relation, by cases on what is told
-abbrev pub Answers : TConfiguration → List ℕ → ℕ → ℕ → ℕ → Shape → Outcome → Type 0
-Answers c s at d sd sh (ended e count) = Stands c s at d sd sh e count
-Answers c s at d sd sh (cut-off n p count) = IsCut c s at d sd sh n p count
+abbrev pub Answers : (C : Coding) → TConfiguration → List ℕ → ℕ → ℕ → ℕ → C .Kind → Outcome → Type 0
+Answers C c s at d sd k (ended e count) = Stands C c s at d sd k e count
+Answers C c s at d sd k (cut-off n p count) = IsCut C c s at d sd k n p count
 
 -- "Order at every entry: 2, 20", with count 0, then the value
 abbrev pub skipEntry : ℕ → ℕ → List ℕ → ℕ → Answer Unit
@@ -160,12 +148,12 @@ AfterEntry (refused n p) x rest = x ≡ cut-off n p 0
 AfterEntry (gives u q) x rest = rest
 
 -- "a value of that type stands" at a place: a tree, "with the conditions of 2, 11 and 20" (11 is a struct's own, in `Fits`)
-pub record StandsHere (c : TConfiguration) (s : List ℕ) (at d sd : ℕ) (t : TType) (e n : ℕ) : Type 0 where
+pub record StandsHere (C : Coding) (c : TConfiguration) (s : List ℕ) (at d sd : ℕ) (k : C .Kind) (e n : ℕ) : Type 0 where
   pub inside : at ≤ length s
   pub depth : d ≤ 127
   pub structs : sd ≤ 65535
-  pub stands : Stands c s at d sd (shapeOf t) e n
+  pub stands : Stands C c s at d sd k e n
 
--- what the skip of a type answers
-abbrev pub SkipAnswers : TConfiguration → List ℕ → ℕ → ℕ → ℕ → TType → Outcome → Type 0
-SkipAnswers c s at d sd t x = AfterEntry (skipEntry d sd s at) x (Answers c s at d sd (shapeOf t) x)
+-- what the skip of a value answers
+abbrev pub SkipAnswers : (C : Coding) → TConfiguration → List ℕ → ℕ → ℕ → ℕ → C .Kind → Outcome → Type 0
+SkipAnswers C c s at d sd k x = AfterEntry (skipEntry d sd s at) x (Answers C c s at d sd k x)

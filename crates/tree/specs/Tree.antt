@@ -1,180 +1,151 @@
--- A value as a tree: its bytes (Apache's layout), the number of its values, and that it fits depth and limits at every node.
+-- A value as a tree, in any encoding: its bytes, the number of its values, and that it fits depth and limits at every node.
 -- The parts of a struct, a list and a map are written from the last one back.
-use Prim.Native.Nat.{ℕ, _+_, _-_, _*_, _<_}
+use Prim.Native.Nat.{ℕ, _+_, _-_, _<_}
 use mathlib.Core.Path.{_≡_}
 use mathlib.Core.Bool.{false}
-use mathlib.Core.List.{List, [], _∷_, _++_}
-use lib.ListN.{length}
-use Rattle.codes.specs.Codes.{typeByte, typeOf, isStop, leastSize}
-use Rattle.codes.specs.Shapes.{shapeOf}
-use Rattle.codes.specs.declared.TType.{TType}
-use Rattle.codes.specs.declared.TType.the-variants as T
-use Rattle.codes.specs.declared.Typed.the-variants as Type-of
-use Rattle.codes.specs.declared.shape.Shape.{Shape}
-use Rattle.codes.specs.declared.shape.Shape.the-variants as Sh
-use Rattle.config.specs.Limits.{above, reached}
+use mathlib.Core.List.{List, [], _++_}
+use Rattle.config.specs.Limits.{reached}
 use Rattle.config.specs.declared.configuration.TConfiguration.{TConfiguration}
-use Rattle.text.specs.Texts.{sizedLayout}
-use Rattle.read.specs.Layouts.{fieldLayout, listLayout, mapLayout}
+use Rattle.tree.specs.Coding.{Items, Paired, stop, going, Coding}
+use Rattle.tree.specs.Coding as seen
 
+-- K and S are an encoding's kinds and what it remembers
 mutual
-  pub data Tree : Type 0 where
-    -- a scalar or a UUID, by its bytes
-    scalar : List ℕ → Tree
-    -- a string, by its body
-    text : List ℕ → Tree
-    struct : Fields → Tree
-    -- a list or a set: the element type and the elements
-    list : TType → Trees → Tree
-    -- a map: the key type, the value type and the pairs
-    map : TType → TType → Pairs → Tree
+  pub data Tree (K S : Type 0) : Type 0 where
+    -- a value with no value in it, by its bytes
+    leaf : List ℕ → Tree K S
+    -- a struct: the fields, and the bytes that end them
+    struct : Fields K S → List ℕ → Tree K S
+    -- a list or a set: the header's bytes, what it says, and the elements
+    list : List ℕ → Items K → Trees K S → Tree K S
+    -- a map: the header's bytes, what it says, and the pairs
+    map : List ℕ → Paired K → Pairs K S → Tree K S
 
-  -- the fields of a struct: the type, the two bytes of the id and the value of each
-  pub data Fields : Type 0 where
-    nil : Fields
-    snoc : Fields → TType → List ℕ → Tree → Fields
+  -- the fields of a struct: of each its header's bytes, the kind and what is remembered that it says, and the value
+  pub data Fields (K S : Type 0) : Type 0 where
+    nil : Fields K S
+    snoc : Fields K S → List ℕ → K → S → Tree K S → Fields K S
 
-  pub data Trees : Type 0 where
-    none : Trees
-    then : Trees → Tree → Trees
+  pub data Trees (K S : Type 0) : Type 0 where
+    none : Trees K S
+    then : Trees K S → Tree K S → Trees K S
 
-  pub data Pairs : Type 0 where
-    empty : Pairs
-    with : Pairs → Tree → Tree → Pairs
+  pub data Pairs (K S : Type 0) : Type 0 where
+    empty : Pairs K S
+    with : Pairs K S → Tree K S → Tree K S → Pairs K S
 
 -- a list's or set's "size": how many elements follow
-unfoldable pub countOf : Trees → ℕ
+unfoldable pub countOf : {K S : Type 0} → Trees K S → ℕ
 countOf none = 0
 countOf (then ts t) = countOf ts + 1
 
 -- a map's "size": how many pairs follow, "key, value, key, value"
-unfoldable pub pairsOf : Pairs → ℕ
+unfoldable pub pairsOf : {K S : Type 0} → Pairs K S → ℕ
 pairsOf empty = 0
 pairsOf (with ps k v) = pairsOf ps + 1
 
--- "Layout comes from Apache's public Thrift binary protocol document"
+-- the bytes of a tree
 unfoldable mutual
-  pub layout : Tree → List ℕ
-  layout (scalar b) = b
-  layout (text b) = sizedLayout b
-  -- the fields, then a stop byte
-  layout (struct fs) = fieldsLayout fs ++ (typeByte T.Stop ∷ [])
+  pub layout : {K S : Type 0} → Tree K S → List ℕ
+  layout (leaf b) = b
+  layout (struct fs e) = fieldsLayout fs ++ e
   -- each container's header, then the elements; of a map, key and value of each pair
-  layout (list t ts) = listLayout t (countOf ts) ++ treesLayout ts
-  layout (map k v ps) = mapLayout k v (pairsOf ps) ++ pairsLayout ps
+  layout (list h i ts) = h ++ treesLayout ts
+  layout (map h i ps) = h ++ pairsLayout ps
 
-  pub fieldsLayout : Fields → List ℕ
+  pub fieldsLayout : {K S : Type 0} → Fields K S → List ℕ
   fieldsLayout nil = []
   -- each field's header, then its value
-  fieldsLayout (snoc fs t id v) = fieldsLayout fs ++ (fieldLayout t id ++ layout v)
+  fieldsLayout (snoc fs h k st v) = fieldsLayout fs ++ (h ++ layout v)
 
-  pub treesLayout : Trees → List ℕ
+  pub treesLayout : {K S : Type 0} → Trees K S → List ℕ
   treesLayout none = []
   treesLayout (then ts t) = treesLayout ts ++ layout t
 
-  pub pairsLayout : Pairs → List ℕ
+  pub pairsLayout : {K S : Type 0} → Pairs K S → List ℕ
   pairsLayout empty = []
   pairsLayout (with ps k v) = pairsLayout ps ++ (layout k ++ layout v)
 
 -- "The count is the number of values": the value itself and those in it
 unfoldable mutual
-  pub valuesOf : Tree → ℕ
-  valuesOf (scalar b) = 1
-  valuesOf (text b) = 1
-  valuesOf (struct fs) = 1 + fieldsValues fs
-  valuesOf (list t ts) = 1 + treesValues ts
-  valuesOf (map k v ps) = 1 + pairsValues ps
+  pub valuesOf : {K S : Type 0} → Tree K S → ℕ
+  valuesOf (leaf b) = 1
+  valuesOf (struct fs e) = 1 + fieldsValues fs
+  valuesOf (list h i ts) = 1 + treesValues ts
+  valuesOf (map h i ps) = 1 + pairsValues ps
 
-  pub fieldsValues : Fields → ℕ
+  pub fieldsValues : {K S : Type 0} → Fields K S → ℕ
   fieldsValues nil = 0
-  fieldsValues (snoc fs t id v) = fieldsValues fs + valuesOf v
+  fieldsValues (snoc fs h k st v) = fieldsValues fs + valuesOf v
 
-  pub treesValues : Trees → ℕ
+  pub treesValues : {K S : Type 0} → Trees K S → ℕ
   treesValues none = 0
   treesValues (then ts t) = treesValues ts + valuesOf t
 
-  pub pairsValues : Pairs → ℕ
+  pub pairsValues : {K S : Type 0} → Pairs K S → ℕ
   pairsValues empty = 0
   pairsValues (with ps k v) = pairsValues ps + (valuesOf k + valuesOf v)
 
--- "Utf7 writes as 0B; 0B reads as String": a type in a header is one that its byte reads as, which is every one but Utf7
-abbrev pub Reads : TType → Type 0
-Reads t = typeOf (typeByte t) ≡ Type-of.Known t
+-- what is remembered after some fields
+unfoldable pub stateOf : {K S : Type 0} → S → Fields K S → S
+stateOf s nil = s
+stateOf s (snoc fs h k st v) = st
 
--- a string, "its length and body, no UTF-8 check": the length is not negative (6) and within the string limit (7)
-pub record LengthFits (c : TConfiguration) (n : ℕ) : Type 0 where
-  pub not-negative : n < 2147483648
-  pub string : above n (c .«max_string_size») ≡ false
-
--- a container of n elements: "Then 6, 8, 9", by rule 9 "size times the least element size must not exceed the message limit"
-pub record SizeFits (c : TConfiguration) (least n : ℕ) : Type 0 where
-  pub not-negative : n < 2147483648
-  pub container : above n (c .«max_container_size») ≡ false
-  pub message : above (n * least) (c .«max_message_size») ≡ false
-
--- "Its limits are those above, each at every node": a value has depth left ("depth 0 is 10") and what its shape asks; `inner` is said of what
--- is in it. First, "a scalar or a UUID passes its bytes"
-pub record ScalarFits (d : ℕ) (sh : Shape) (b : List ℕ) : Type 0 where
+-- "Its limits are those above, each at every node": a value has depth left ("depth 0 is 10") and what its kind asks; `inner` is said of what
+-- is in it. First, "a scalar or a UUID passes its bytes; a string its length and body"
+pub record LeafFits (C : Coding) (c : TConfiguration) (d : ℕ) (k : C .Kind) (b : List ℕ) : Type 0 where
   pub deep : 0 < d
-  pub shape : sh ≡ Sh.Fixed (length b)
-  -- true of every type's width; said so that the count's bound holds for any shape
-  pub some : 0 < length b
+  pub view : C .view k ≡ seen.leaf
+  pub bytes : C .Leaf c k b
 
-pub record TextFits (c : TConfiguration) (d : ℕ) (sh : Shape) (b : List ℕ) : Type 0 where
+-- "a struct does the struct begin": 11 "at depth at or above the limit, or at 65,535 whatever the limit"; it ends with Stop
+pub record StructFits (C : Coding) (c : TConfiguration) (d sd : ℕ) (k : C .Kind) (st : C .State) (e : List ℕ) (inner : Type 0) : Type 0 where
   pub deep : 0 < d
-  pub shape : sh ≡ Sh.Text
-  pub size : LengthFits c (length b)
-
--- "a struct does the struct begin": 11 "at depth at or above the limit, or at 65,535 whatever the limit"
-pub record StructFits (c : TConfiguration) (d sd : ℕ) (sh : Shape) (inner : Type 0) : Type 0 where
-  pub deep : 0 < d
-  pub shape : sh ≡ Sh.Fields
+  pub view : C .view k ≡ seen.fields
   pub limit : reached sd (c .«max_recursion_depth») ≡ false
   pub cap : sd < 65535
   pub fields : inner
+  pub end : C .Head st e stop
 
--- "a container reads its header, then every element": its type byte is known (5), its size fits
-pub record ListFits (c : TConfiguration) (d : ℕ) (sh : Shape) (t : TType) (n : ℕ) (inner : Type 0) : Type 0 where
+-- "a container reads its header, then every element": as many as the header says
+pub record ListFits (C : Coding) (c : TConfiguration) (d : ℕ) (k : C .Kind) (h : List ℕ) (i : Items (C .Kind)) (n : ℕ) (inner : Type 0) : Type 0 where
   pub deep : 0 < d
-  pub shape : sh ≡ Sh.Items
-  pub reads : Reads t
-  pub size : SizeFits c (leastSize t) n
+  pub view : C .view k ≡ seen.items
+  pub header : C .ListHead c h i
+  pub size : i .size ≡ n
   pub elements : inner
 
--- and a map's "key type (5), value type (5), size", for rule 9 "key plus value sizes"
-pub record MapFits (c : TConfiguration) (d : ℕ) (sh : Shape) (k v : TType) (n : ℕ) (inner : Type 0) : Type 0 where
+-- and of a map every pair
+pub record MapFits (C : Coding) (c : TConfiguration) (d : ℕ) (k : C .Kind) (h : List ℕ) (i : Paired (C .Kind)) (n : ℕ) (inner : Type 0) : Type 0 where
   pub deep : 0 < d
-  pub shape : sh ≡ Sh.Pairs
-  pub key : Reads k
-  pub value : Reads v
-  pub size : SizeFits c (leastSize k + leastSize v) n
+  pub view : C .view k ≡ seen.pairs
+  pub header : C .MapHead c h i
+  pub size : i .size ≡ n
   pub pairs : inner
 
--- "fields until Stop": the type byte is known and no Stop, then "a 16-bit id", then the value
-pub record FieldFits (t : TType) (id : List ℕ) (before inner : Type 0) : Type 0 where
-  pub fields : before
-  pub reads : Reads t
-  pub going : isStop t ≡ false
-  pub two : length id ≡ 2
+-- "fields until Stop": a header that is no Stop, behind what the fields before it leave, then the value
+pub record FieldFits (C : Coding) (before : C .State) (h : List ℕ) (k : C .Kind) (st : C .State) (others inner : Type 0) : Type 0 where
+  pub fields : others
+  pub header : C .Head before h (going k st)
   pub value : inner
 
--- a tree of a shape fits at a depth and a struct depth: "each value at depth less one", and a struct's at one struct depth more
-unfoldable mutual
-  pub Fits : TConfiguration → ℕ → ℕ → Shape → Tree → Type 0
-  Fits c d sd sh (scalar b) = ScalarFits d sh b
-  Fits c d sd sh (text b) = TextFits c d sh b
-  Fits c d sd sh (struct fs) = StructFits c d sd sh (FieldsFit c (d - 1) (sd + 1) fs)
-  Fits c d sd sh (list t ts) = ListFits c d sh t (countOf ts) (TreesFit c (d - 1) sd (shapeOf t) ts)
-  Fits c d sd sh (map k v ps) = MapFits c d sh k v (pairsOf ps) (PairsFit c (d - 1) sd (shapeOf k) (shapeOf v) ps)
+-- a tree of a kind fits at a depth and a struct depth: "each value at depth less one", and a struct's at one struct depth more
+module _ (C : Coding) where
+  unfoldable mutual
+    pub Fits : Tree (C .Kind) (C .State) → TConfiguration → ℕ → ℕ → C .Kind → Type 0
+    Fits (leaf b) c d sd k = LeafFits C c d k b
+    Fits (struct fs e) c d sd k = StructFits C c d sd k (stateOf (C .start) fs) e (FieldsFit fs c (d - 1) (sd + 1))
+    Fits (list h i ts) c d sd k = ListFits C c d k h i (countOf ts) (TreesFit ts c (d - 1) sd (i .element))
+    Fits (map h i ps) c d sd k = MapFits C c d k h i (pairsOf ps) (PairsFit ps c (d - 1) sd (i .key) (i .value))
 
-  pub FieldsFit : TConfiguration → ℕ → ℕ → Fields → Type 0
-  FieldsFit c d sd nil = Unit
-  FieldsFit c d sd (snoc fs t id v) = FieldFits t id (FieldsFit c d sd fs) (Fits c d sd (shapeOf t) v)
+    pub FieldsFit : Fields (C .Kind) (C .State) → TConfiguration → ℕ → ℕ → Type 0
+    FieldsFit nil c d sd = Unit
+    FieldsFit (snoc fs h k st v) c d sd = FieldFits C (stateOf (C .start) fs) h k st (FieldsFit fs c d sd) (Fits v c d sd k)
 
-  pub TreesFit : TConfiguration → ℕ → ℕ → Shape → Trees → Type 0
-  TreesFit c d sd sh none = Unit
-  TreesFit c d sd sh (then ts t) = TreesFit c d sd sh ts × Fits c d sd sh t
+    pub TreesFit : Trees (C .Kind) (C .State) → TConfiguration → ℕ → ℕ → C .Kind → Type 0
+    TreesFit none c d sd k = Unit
+    TreesFit (then ts t) c d sd k = TreesFit ts c d sd k × Fits t c d sd k
 
-  pub PairsFit : TConfiguration → ℕ → ℕ → Shape → Shape → Pairs → Type 0
-  PairsFit c d sd kh vh empty = Unit
-  PairsFit c d sd kh vh (with ps k v) = PairsFit c d sd kh vh ps × Fits c d sd kh k × Fits c d sd vh v
+    pub PairsFit : Pairs (C .Kind) (C .State) → TConfiguration → ℕ → ℕ → C .Kind → C .Kind → Type 0
+    PairsFit empty c d sd k v = Unit
+    PairsFit (with ps x y) c d sd k v = PairsFit ps c d sd k v × Fits x c d sd k × Fits y c d sd v

@@ -30,7 +30,8 @@ use Rattle.text.specs.declared.Body.{Body}
 use Rattle.text.specs.declared.Body.the-variants as Body-of
 use Rattle.tree.specs.Part.{Part}
 use Rattle.tree.proofs.Parts.{part-length, part-split}
-use Rattle.tree.proofs.Reading.{part-within, number-reads, sized-reads}
+use Rattle.tree.proofs.Reading.{part-within, number-reads}
+use Rattle.binary.proofs.Reading.{sized-reads}
 use Rattle.write.specs.Outputs.{boolByte, bytesOutput, namedOutput}
 use Rattle.write.proofs.Outputs.{Name, short, is-short, with-name, written-name}
 

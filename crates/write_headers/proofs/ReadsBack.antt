@@ -20,8 +20,9 @@ use Rattle.read.specs.Headers.{field, fieldAt, list, listAt, asSet, setAt, map,
 use Rattle.read.specs.Layouts.{listLayout}
 use Rattle.read.proofs.Headers as headers
 use Rattle.write.proofs.ReadsBack.{stands}
-use Rattle.tree.specs.Tree.{Reads, SizeFits}
-use Rattle.tree.proofs.Reading.{field-reads, stop-reads, list-reads, map-reads}
+use Rattle.tree.specs.Sizes.{SizeFits}
+use Rattle.binary.specs.Layouts.{Reads}
+use Rattle.binary.proofs.Reading.{field-reads, stop-reads, list-reads, map-reads}
 use Rattle.write_headers.specs.Outputs.{fieldOutput, mapOutput}
 use Rattle.write_headers.specs.declared.field.FieldId.the-variants as Id
 use Rattle.write_headers.specs.declared.container.MapType.the-variants as Of-map

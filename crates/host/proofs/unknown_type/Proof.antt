@@ -4,7 +4,7 @@ use native.Mathlib.Omega.{arith}
 use lib.Dec.{lit≤}
 use Rattle.wire.specs.Answer.{gives, refused}
 use Rattle.skip.specs.Skips.{toldSkipped}
-use Rattle.skip.proofs.Entry.{entry-beyond, entry-depth, entered}
+use Rattle.tree.proofs.Entry.{entry-beyond, entry-depth, entered}
 use Rattle.host.proofs.Rows.{unknown-as}
 use Rattle.host.proofs.unknown_type.Statement.{statement}
 use Rattle.host.proofs.unknown_type.Tie as tie

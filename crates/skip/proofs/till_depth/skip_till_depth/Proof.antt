@@ -3,7 +3,8 @@ use borrow.Author.Needs.{needs}
 use native.Mathlib.Omega.{arith}
 use mathlib.Core.Path.{refl}
 use Rattle.wire.specs.declared.refusal.Kind.the-variants as K
-use Rattle.skip.proofs.Entry.{entry-beyond, entry-struct-depth, entry-depth, entered, barred, let-in}
+use Rattle.tree.proofs.Entry.{entry-beyond, entry-struct-depth, entry-depth, entered}
+use Rattle.skip.proofs.Entry.{barred, let-in}
 use Rattle.skip.proofs.till_depth.skip_till_depth.Statement.{statement}
 use Rattle.skip.proofs.till_depth.skip_till_depth.Tie as tie
 

@@ -1,6 +1,6 @@
 -- The cycle of calls. A value's skip calls those of a struct, a list and a map at the same depth, and they call it at the depth less one: so the
 -- measures are twice the depth, and one more for a value's. Assumes nothing.
-use mathlib.Core.Path.{_≡_, sym, ap, _∙_}
+use mathlib.Core.Path.{_≡_, refl, sym, ap, _∙_}
 use Prim.Native.Nat.{ℕ, _+_, _-_, _<_}
 use lib.IntN.{natAbs}
 use lib.ListN.{length}
@@ -11,18 +11,12 @@ use borrow.Author.Needs.{needs}
 use Rattle.wire.proofs.Answers.{told-as}
 use Rattle.read.specs.Told.{toldField, toldList, toldMap}
 use Rattle.nesting.specs.Structs.{toldDepth}
-use Rattle.leaf.specs.Told.{toldWalked}
-use Rattle.tree.proofs.Steps as steps
-use Rattle.tree.proofs.Bounds.{stands-count, cut-small}
-use Rattle.skip.proofs.Runs.{after-run, run-upto}
+use Rattle.binary.proofs.Steps as steps
 use Rattle.skip.proofs.Sizes.{list-bits, map-bits}
-use Rattle.codes.specs.Shapes.{shapeOf}
-use Rattle.wire.specs.Answer.{judged}
 use Rattle.tree.proofs.Parts.{part-length}
-use Rattle.tree.proofs.Heads.{field-is, struct-is}
+use Rattle.tree.proofs.Heads.{struct-is}
+use Rattle.binary.proofs.Heads.{field-is}
 use Rattle.codes.specs.declared.shape.Shape.the-variants as Sh
-use Rattle.leaf.proofs.Leaves.{fixed-width}
-use Rattle.skip.proofs.Leaves.{fixed-answers, text-answers, unfit-answers, deep-answers, shape-answers}
 use borrow.Fn.Kinds.{In}
 use borrow.Fn.PlainCycle.{Measures, is, falls, and}
 use Rattle.skip.proofs.value.skip_list.Reads as skip-list
@@ -44,7 +38,6 @@ use Rattle.read.proofs.field.read_field_begin.Reads as read-field-begin-reads
 use Rattle.nesting.proofs.read_struct_begin.Reads as read-struct-begin-reads
 use Rattle.leaf.proofs.refused.Reads as refused-reads
 use Rattle.leaf.proofs.skip_fixed.Reads as skip-fixed-reads
-use Rattle.leaf.proofs.skip_run.Reads as skip-run-reads
 use Rattle.leaf.proofs.skip_text.Reads as skip-text-reads
 use Rattle.codes.proofs.TType.is_stop.Reads as is-stop-reads
 use Rattle.codes.proofs.shape.shape_of.Reads as shape-of-reads
@@ -94,7 +87,7 @@ skip-value-below t =
     and 1 skip-value-kinds.ps (falls 1 skip-value-kinds.ps _<_ μ-skip-value t) skip-value.Pre
 
 abbrev skip-list-claims : ℕ → skip-list-lts.Claims
-skip-list-claims t = (read-list-begin-reads.Asked, read-list-begin-reads.Learnt, bits32-reads.Asked, bits32-reads.Learnt, skip-run-reads.Asked, skip-run-reads.Learnt, skip-value-below t, skip-value.Post)
+skip-list-claims t = (read-list-begin-reads.Asked, read-list-begin-reads.Learnt, bits32-reads.Asked, bits32-reads.Learnt, skip-value-below t, skip-value.Post)
 
 abbrev skip-map-claims : ℕ → skip-map-lts.Claims
 skip-map-claims t = (read-map-begin-reads.Asked, read-map-begin-reads.Learnt, bits32-reads.Asked, bits32-reads.Learnt, skip-value-below t, skip-value.Post)
@@ -106,11 +99,11 @@ abbrev skip-value-claims : ℕ → skip-value-lts.Claims
 skip-value-claims t = (refused-reads.Asked, refused-reads.Learnt, shape-of-reads.Asked, shape-of-reads.Learnt, skip-fixed-reads.Asked, skip-fixed-reads.Learnt, skip-text-reads.Asked, skip-text-reads.Learnt, skip-struct-below t, skip-struct.Post, skip-list-below t, skip-list.Post, skip-map-below t, skip-map.Post)
 
 abbrev skip-list-Inv-loop : skip-list-lts.InvT-loop
-skip-list-Inv-loop bytes start depth struct-depth config element-type size bits len begin at₀ count₀ i₀ at count i =
-    steps.ListLoop config bytes start depth struct-depth element-type (toZ w32 size) begin at count i × (len ≡ natAbs (toZ w32 size))
+skip-list-Inv-loop bytes start depth struct-depth config element-type size len at₀ count₀ i₀ at count i =
+    steps.ListLoop config bytes start depth struct-depth element-type (toZ w32 size) at₀ at count i × (len ≡ natAbs (toZ w32 size))
 
 abbrev skip-list-μ-loop : skip-list-lts.MeasureT-loop
-skip-list-μ-loop bytes start depth struct-depth config element-type size bits len begin at₀ count₀ i₀ at count i = len - i
+skip-list-μ-loop bytes start depth struct-depth config element-type size len at₀ count₀ i₀ at count i = len - i
 
 abbrev skip-map-Inv-loop : skip-map-lts.InvT-loop
 skip-map-Inv-loop bytes start depth struct-depth config key-type value-type size len at₀ count₀ i₀ at count i =
@@ -136,23 +129,20 @@ pub +skip-list+skip-map+skip-struct+skip-value-spec : {M : Type 1} → statement
     (λ c. search needs)
     (λ c κs. search needs)
     (λ c. search needs)
-    (λ c. omega (arith, c .before .before .before .before .before .before .before .pre .1))
-    (λ c κs. search needs)
-    (λ c. record { fits = omega (arith, run-upto _ _ _ _ _ (c .before .skip-run .ensures), c .before .before .bits32 .ok) })
-    (λ c. let same : toZ w32 (ofZ w32 (c .before .before .before .before .before .list .given .0 .0 .size)) ≡ c .before .before .before .before .before .list .given .0 .0 .size = search needs in let l = c .before .before .bits32 .ensures ∙ ap (ofZ w32) same ∙ list-bits _ _ _ (told-as toldList (c .before .before .before .before .before .list .given .1) (c .before .before .before .before .before .before .before .read-list-begin .ensures)) in rw same (after-run _ _ _ _ _ (steps.list-start _ _ _ _ _ (λ i. c .before .before .before .before .before .before .before .before .shared-slice-known .given i .fits) (c .before .before .before .before .before .before .before .before .before .pre .1) (told-as toldList (c .before .before .before .before .before .list .given .1) (c .before .before .before .before .before .before .before .read-list-begin .ensures))) (rw l at (c .before .skip-run .ensures)), l))
+    (λ c. let same : toZ w32 (ofZ w32 (c .before .before .before .list .given .0 .0 .size)) ≡ c .before .before .before .list .given .0 .0 .size = search needs in rw same (steps.list-start _ _ _ _ _ (λ i. c .before .before .before .before .before .before .shared-slice-known .given i .fits) (c .before .before .before .before .before .before .before .pre .1) (told-as toldList (c .before .before .before .list .given .1) (c .before .before .before .before .before .read-list-begin .ensures)), c .bits32 .ensures ∙ ap (ofZ w32) same ∙ list-bits _ _ _ (told-as toldList (c .before .before .before .list .given .1) (c .before .before .before .before .before .read-list-begin .ensures))))
     (λ c. omega (arith, c .before .loop .inv .0 .deep))
-    (λ c κs. (omega (arith, c .before .before .before .before .before .before .before .before .before .before .before .pre .0, c .before .loop .inv .0 .deep), tt))
+    (λ c κs. (omega (arith, c .before .before .before .before .before .before .before .before .before .pre .0, c .before .loop .inv .0 .deep), tt))
     (λ c. search needs)
-    (λ c. let v = (rw (c .before .end .given .1) at (c .before .before .before .skip-value .ensures)) in let h = stands-count _ _ _ _ _ _ _ _ v in let r = steps.list-room _ _ _ _ _ (c .before .before .before .before .before .loop .inv .0) in omega (arith, h .1, r .0, v .part .within, c .before .before .before .before .before .before .before .before .before .before .before .before .before .before .before .good .0))
+    (λ c. let v = (rw (c .before .end .given .1) at (c .before .before .before .skip-value .ensures)) in let h = steps.stands-count _ _ _ _ _ _ _ _ v in let r = steps.list-room _ _ _ _ _ (c .before .before .before .before .before .loop .inv .0) in omega (arith, h .1, r .0, v .part .within, c .before .before .before .before .before .before .before .before .before .before .before .before .before .good .0))
     (λ c. search needs)
-    (λ c. let r = steps.list-room _ _ _ _ _ (c .before .before .before .before .before .loop .inv .0) in let h = cut-small _ _ _ _ _ _ _ _ _ (r .1) (rw (c .before .refusal .given .1) at (c .before .before .before .skip-value .ensures)) in omega (arith, h, r .0, c .before .before .before .before .before .before .before .before .before .before .before .before .before .before .before .good .0))
-    (λ c. steps.list-cut _ _ _ _ _ (c .before .before .before .before .before .loop .inv .0) (rw (c .before .before .before .before .before .loop .inv .1) at (c .before .before .before .before .loop-test .taken)) (rw (c .before .refusal .given .1) at (c .before .before .before .skip-value .ensures)))
-    (λ c. omega (arith, c .before .before .before .before .loop-test .taken, c .before .before .before .before .before .before .before .before .bits32 .ok))
+    (λ c. let r = steps.list-room _ _ _ _ _ (c .before .before .before .before .before .loop .inv .0) in let h = steps.cut-small _ _ _ _ _ _ _ _ _ (r .1) (rw (c .before .refusal .given .1) at (c .before .before .before .skip-value .ensures)) in omega (arith, h, r .0, c .before .before .before .before .before .before .before .before .before .before .before .before .before .good .0))
+    (λ c t e. steps.list-cut _ _ _ _ _ t e (c .before .before .before .before .before .loop .inv .0) (rw (c .before .before .before .before .before .loop .inv .1) at (c .before .before .before .before .loop-test .taken)) (rw (c .before .refusal .given .1) at (c .before .before .before .skip-value .ensures)))
+    (λ c. omega (arith, c .before .before .before .before .loop-test .taken, c .before .before .before .before .before .before .bits32 .ok))
     (λ c. omega (arith, c .before .before .before .before .loop-test .taken))
     (λ c. (steps.list-more _ _ _ _ _ (c .before .before .before .before .before .loop .inv .0) (rw (c .before .before .before .before .before .loop .inv .1) at (c .before .before .before .before .loop-test .taken)) (rw (c .before .end .given .1) at (c .before .before .before .skip-value .ensures)), c .before .before .before .before .before .loop .inv .1))
     (λ c. search needs)
-    (λ c. steps.list-stands _ _ _ _ _ (λ i. c .before .before .before .before .before .before .before .before .before .before .shared-slice-known .given i .fits) (c .before .loop .inv .0) (rw (c .before .loop .inv .1) at (c .loop-test .left)))
-    (λ c. steps.own-refused _ _ _ _ _ Sh.Items _ _ (λ z. omega (arith, c .before .before .before .before .before .pre .1)) (ap judged (told-as toldList (c .before .refusal2 .given .1) (c .before .before .before .read-list-begin .ensures)))))
+    (λ c t e. steps.list-stands _ _ _ _ _ t e (λ i. c .before .before .before .before .before .before .before .before .shared-slice-known .given i .fits) (c .before .loop .inv .0) (rw (c .before .loop .inv .1) at (c .loop-test .left)))
+    (λ c t e. steps.list-refused _ _ _ _ _ t e _ _ (λ z. omega (arith, c .before .before .before .before .before .pre .1)) (told-as toldList (c .before .refusal2 .given .1) (c .before .before .before .read-list-begin .ensures))))
     (λ t. skip-map-lts.spec (skip-map-claims t) (skip-map-at t) skip-map.Post
     skip-map-Inv-loop
     skip-map-μ-loop
@@ -167,21 +157,21 @@ pub +skip-list+skip-map+skip-struct+skip-value-spec : {M : Type 1} → statement
     (λ c. omega (arith, c .before .before .before .before .before .loop .inv .0 .deep))
     (λ c κs. (omega (arith, c .before .before .before .before .before .before .before .before .before .before .before .before .before .pre .0, c .before .before .before .before .before .loop .inv .0 .deep), tt))
     (λ c. search needs)
-    (λ c. let k = (rw (c .before .before .before .before .before .mid .given .1) at (c .before .before .before .before .before .before .before .skip-value .ensures)) in let h = stands-count _ _ _ _ _ _ _ _ k in let r = steps.map-room _ _ _ _ _ (c .before .before .before .before .before .before .before .before .before .loop .inv .0) in omega (arith, h .1, r .0, k .part .within, c .before .before .before .before .before .before .before .before .before .before .before .before .before .before .before .before .before .good .0))
-    (λ c. let k = (rw (c .before .before .before .before .before .mid .given .1) at (c .before .before .before .before .before .before .before .skip-value .ensures)) in let v = (rw (c .before .next .given .1) at (c .before .before .before .skip-value2 .ensures)) in let g = stands-count _ _ _ _ _ _ _ _ k in let h = stands-count _ _ _ _ _ _ _ _ v in let r = steps.map-room _ _ _ _ _ (c .before .before .before .before .before .before .before .before .before .loop .inv .0) in omega (arith, g .1, h .1, r .0, v .part .within, c .before .before .before .before .before .before .before .before .before .before .before .before .before .before .before .before .before .good .0))
+    (λ c. let k = (rw (c .before .before .before .before .before .mid .given .1) at (c .before .before .before .before .before .before .before .skip-value .ensures)) in let h = steps.stands-count _ _ _ _ _ _ _ _ k in let r = steps.map-room _ _ _ _ _ (c .before .before .before .before .before .before .before .before .before .loop .inv .0) in omega (arith, h .1, r .0, k .part .within, c .before .before .before .before .before .before .before .before .before .before .before .before .before .before .before .before .before .good .0))
+    (λ c. let k = (rw (c .before .before .before .before .before .mid .given .1) at (c .before .before .before .before .before .before .before .skip-value .ensures)) in let v = (rw (c .before .next .given .1) at (c .before .before .before .skip-value2 .ensures)) in let g = steps.stands-count _ _ _ _ _ _ _ _ k in let h = steps.stands-count _ _ _ _ _ _ _ _ v in let r = steps.map-room _ _ _ _ _ (c .before .before .before .before .before .before .before .before .before .loop .inv .0) in omega (arith, g .1, h .1, r .0, v .part .within, c .before .before .before .before .before .before .before .before .before .before .before .before .before .before .before .before .before .good .0))
     (λ c. search needs)
-    (λ c. let k = (rw (c .before .before .before .before .before .mid .given .1) at (c .before .before .before .before .before .before .before .skip-value .ensures)) in let h = stands-count _ _ _ _ _ _ _ _ k in let r = steps.map-room _ _ _ _ _ (c .before .before .before .before .before .before .before .before .before .loop .inv .0) in omega (arith, h .1, r .0, k .part .within, c .before .before .before .before .before .before .before .before .before .before .before .before .before .before .before .before .before .good .0))
-    (λ c. let k = (rw (c .before .before .before .before .before .mid .given .1) at (c .before .before .before .before .before .before .before .skip-value .ensures)) in let g = stands-count _ _ _ _ _ _ _ _ k in let h = cut-small _ _ _ _ _ _ _ _ _ (k .part .within) (rw (c .before .late .given .1) at (c .before .before .before .skip-value2 .ensures)) in let r = steps.map-room _ _ _ _ _ (c .before .before .before .before .before .before .before .before .before .loop .inv .0) in omega (arith, g .1, h, r .0, c .before .before .before .before .before .before .before .before .before .before .before .before .before .before .before .before .before .good .0))
-    (λ c. steps.map-value-cut _ _ _ _ _ (c .before .before .before .before .before .before .before .before .before .loop .inv .0) (rw (c .before .before .before .before .before .before .before .before .before .loop .inv .1) at (c .before .before .before .before .before .before .before .before .loop-test .taken)) (rw (c .before .before .before .before .before .mid .given .1) at (c .before .before .before .before .before .before .before .skip-value .ensures)) (rw (c .before .late .given .1) at (c .before .before .before .skip-value2 .ensures)))
+    (λ c. let k = (rw (c .before .before .before .before .before .mid .given .1) at (c .before .before .before .before .before .before .before .skip-value .ensures)) in let h = steps.stands-count _ _ _ _ _ _ _ _ k in let r = steps.map-room _ _ _ _ _ (c .before .before .before .before .before .before .before .before .before .loop .inv .0) in omega (arith, h .1, r .0, k .part .within, c .before .before .before .before .before .before .before .before .before .before .before .before .before .before .before .before .before .good .0))
+    (λ c. let k = (rw (c .before .before .before .before .before .mid .given .1) at (c .before .before .before .before .before .before .before .skip-value .ensures)) in let g = steps.stands-count _ _ _ _ _ _ _ _ k in let h = steps.cut-small _ _ _ _ _ _ _ _ _ (k .part .within) (rw (c .before .late .given .1) at (c .before .before .before .skip-value2 .ensures)) in let r = steps.map-room _ _ _ _ _ (c .before .before .before .before .before .before .before .before .before .loop .inv .0) in omega (arith, g .1, h, r .0, c .before .before .before .before .before .before .before .before .before .before .before .before .before .before .before .before .before .good .0))
+    (λ c t e. steps.map-value-cut _ _ _ _ _ t e (c .before .before .before .before .before .before .before .before .before .loop .inv .0) (rw (c .before .before .before .before .before .before .before .before .before .loop .inv .1) at (c .before .before .before .before .before .before .before .before .loop-test .taken)) (rw (c .before .before .before .before .before .mid .given .1) at (c .before .before .before .before .before .before .before .skip-value .ensures)) (rw (c .before .late .given .1) at (c .before .before .before .skip-value2 .ensures)))
     (λ c. search needs)
-    (λ c. let r = steps.map-room _ _ _ _ _ (c .before .before .before .before .before .loop .inv .0) in let h = cut-small _ _ _ _ _ _ _ _ _ (r .1) (rw (c .before .refusal .given .1) at (c .before .before .before .skip-value .ensures)) in omega (arith, h, r .0, c .before .before .before .before .before .before .before .before .before .before .before .before .before .good .0))
-    (λ c. steps.map-key-cut _ _ _ _ _ (c .before .before .before .before .before .loop .inv .0) (rw (c .before .before .before .before .before .loop .inv .1) at (c .before .before .before .before .loop-test .taken)) (rw (c .before .refusal .given .1) at (c .before .before .before .skip-value .ensures)))
+    (λ c. let r = steps.map-room _ _ _ _ _ (c .before .before .before .before .before .loop .inv .0) in let h = steps.cut-small _ _ _ _ _ _ _ _ _ (r .1) (rw (c .before .refusal .given .1) at (c .before .before .before .skip-value .ensures)) in omega (arith, h, r .0, c .before .before .before .before .before .before .before .before .before .before .before .before .before .good .0))
+    (λ c t e. steps.map-key-cut _ _ _ _ _ t e (c .before .before .before .before .before .loop .inv .0) (rw (c .before .before .before .before .before .loop .inv .1) at (c .before .before .before .before .loop-test .taken)) (rw (c .before .refusal .given .1) at (c .before .before .before .skip-value .ensures)))
     (λ c. omega (arith, c .before .before .before .before .before .before .before .before .loop-test .taken, c .before .before .before .before .before .before .before .before .before .before .bits32 .ok))
     (λ c. omega (arith, c .before .before .before .before .before .before .before .before .loop-test .taken))
     (λ c. (steps.map-more _ _ _ _ _ (c .before .before .before .before .before .before .before .before .before .loop .inv .0) (rw (c .before .before .before .before .before .before .before .before .before .loop .inv .1) at (c .before .before .before .before .before .before .before .before .loop-test .taken)) (rw (c .before .before .before .before .before .mid .given .1) at (c .before .before .before .before .before .before .before .skip-value .ensures)) (rw (c .before .next .given .1) at (c .before .before .before .skip-value2 .ensures)), c .before .before .before .before .before .before .before .before .before .loop .inv .1))
     (λ c. search needs)
-    (λ c. steps.map-stands _ _ _ _ _ (λ i. c .before .before .before .before .before .before .before .before .shared-slice-known .given i .fits) (c .before .loop .inv .0) (rw (c .before .loop .inv .1) at (c .loop-test .left)))
-    (λ c. steps.own-refused _ _ _ _ _ Sh.Pairs _ _ (λ z. omega (arith, c .before .before .before .before .before .pre .1)) (ap judged (told-as toldMap (c .before .refusal2 .given .1) (c .before .before .before .read-map-begin .ensures)))))
+    (λ c t e. steps.map-stands _ _ _ _ _ t e (λ i. c .before .before .before .before .before .before .before .before .shared-slice-known .given i .fits) (c .before .loop .inv .0) (rw (c .before .loop .inv .1) at (c .loop-test .left)))
+    (λ c t e. steps.map-refused _ _ _ _ _ t e _ _ (λ z. omega (arith, c .before .before .before .before .before .pre .1)) (told-as toldMap (c .before .refusal2 .given .1) (c .before .before .before .read-map-begin .ensures))))
     (λ t. skip-struct-lts.spec (skip-struct-claims t) (skip-struct-at t) skip-struct.Post
     skip-struct-Inv-loop
     skip-struct-μ-loop
@@ -191,23 +181,23 @@ pub +skip-list+skip-map+skip-struct+skip-value-spec : {M : Type 1} → statement
     (λ c κs. search needs)
     (λ c. search needs)
     (λ c κs. search needs)
-    (λ c. steps.struct-stands _ _ _ _ _ _ _ (c .before .before .before .before .before .before .loop .inv .0) (sym (c .before .is-stop .ensures) ∙ c .if1 .taken) (told-as toldField (c .before .before .before .field .given .1) (c .before .before .before .before .before .read-field-begin .ensures)))
+    (λ c t e. steps.struct-stands _ _ _ _ _ t e _ _ (c .before .before .before .before .before .before .loop .inv .0) (sym (c .before .is-stop .ensures) ∙ c .if1 .taken) (told-as toldField (c .before .before .before .field .given .1) (c .before .before .before .before .before .read-field-begin .ensures)))
     (λ c. omega (arith, c .before .before .before .before .before .before .loop .inv .0 .deep))
     (λ c κs. (omega (arith, c .before .before .before .before .before .before .before .before .before .before .before .before .pre .0, c .before .before .before .before .before .before .loop .inv .0 .deep), tt))
     (λ c. search needs)
-    (λ c. let v = (rw (c .before .next .given .1, c .before .before .before .before .before .before .before .before .before .before .loop .inv .1) at (c .before .before .before .skip-value .ensures)) in let h = stands-count _ _ _ _ _ _ _ _ v in let i = field-is _ _ (sym (c .before .before .before .before .before .is-stop .ensures) ∙ c .before .before .before .before .if1 .left) (told-as toldField (c .before .before .before .before .before .before .before .field .given .1) (c .before .before .before .before .before .before .before .before .before .read-field-begin .ensures)) in let r = steps.struct-room _ _ _ _ _ _ _ (c .before .before .before .before .before .before .before .before .before .before .loop .inv .0) in omega (arith, h .1, i .part .from, r .0, v .part .within, c .before .before .before .before .before .before .before .before .before .before .before .before .before .before .before .before .good .0))
+    (λ c. let v = (rw (c .before .next .given .1, c .before .before .before .before .before .before .before .before .before .before .loop .inv .1) at (c .before .before .before .skip-value .ensures)) in let h = steps.stands-count _ _ _ _ _ _ _ _ v in let i = field-is _ _ (sym (c .before .before .before .before .before .is-stop .ensures) ∙ c .before .before .before .before .if1 .left) (told-as toldField (c .before .before .before .before .before .before .before .field .given .1) (c .before .before .before .before .before .before .before .before .before .read-field-begin .ensures)) in let r = steps.struct-room _ _ _ _ _ _ _ (c .before .before .before .before .before .before .before .before .before .before .loop .inv .0) in omega (arith, h .1, i .part .from, r .0, v .part .within, c .before .before .before .before .before .before .before .before .before .before .before .before .before .before .before .before .good .0))
     (λ c. let v = (rw (c .before .next .given .1, c .before .before .before .before .before .before .before .before .before .before .loop .inv .1) at (c .before .before .before .skip-value .ensures)) in let i = field-is _ _ (sym (c .before .before .before .before .before .is-stop .ensures) ∙ c .before .before .before .before .if1 .left) (told-as toldField (c .before .before .before .before .before .before .before .field .given .1) (c .before .before .before .before .before .before .before .before .before .read-field-begin .ensures)) in let l = part-length (i .part) in omega (arith, l, i .two, v .part .from, v .part .within))
     (λ c. (steps.struct-more _ _ _ _ _ _ _ (c .before .before .before .before .before .before .before .before .before .before .loop .inv .0) (sym (c .before .before .before .before .before .is-stop .ensures) ∙ c .before .before .before .before .if1 .left) (told-as toldField (c .before .before .before .before .before .before .before .field .given .1) (c .before .before .before .before .before .before .before .before .before .read-field-begin .ensures)) (rw (c .before .next .given .1, c .before .before .before .before .before .before .before .before .before .before .loop .inv .1) at (c .before .before .before .skip-value .ensures)), c .before .before .before .before .before .before .before .before .before .before .loop .inv .1))
     (λ c. search needs)
-    (λ c. let i = field-is _ _ (sym (c .before .before .before .before .before .is-stop .ensures) ∙ c .before .before .before .before .if1 .left) (told-as toldField (c .before .before .before .before .before .before .before .field .given .1) (c .before .before .before .before .before .before .before .before .before .read-field-begin .ensures)) in let h = cut-small _ _ _ _ _ _ _ _ _ (i .part .within) (rw (c .before .refusal .given .1, c .before .before .before .before .before .before .before .before .before .before .loop .inv .1) at (c .before .before .before .skip-value .ensures)) in let r = steps.struct-room _ _ _ _ _ _ _ (c .before .before .before .before .before .before .before .before .before .before .loop .inv .0) in omega (arith, h, i .part .from, r .0, c .before .before .before .before .before .before .before .before .before .before .before .before .before .before .before .before .good .0))
-    (λ c. steps.struct-value-cut _ _ _ _ _ _ _ (c .before .before .before .before .before .before .before .before .before .before .loop .inv .0) (sym (c .before .before .before .before .before .is-stop .ensures) ∙ c .before .before .before .before .if1 .left) (told-as toldField (c .before .before .before .before .before .before .before .field .given .1) (c .before .before .before .before .before .before .before .before .before .read-field-begin .ensures)) (rw (c .before .refusal .given .1, c .before .before .before .before .before .before .before .before .before .before .loop .inv .1) at (c .before .before .before .skip-value .ensures)))
+    (λ c. let i = field-is _ _ (sym (c .before .before .before .before .before .is-stop .ensures) ∙ c .before .before .before .before .if1 .left) (told-as toldField (c .before .before .before .before .before .before .before .field .given .1) (c .before .before .before .before .before .before .before .before .before .read-field-begin .ensures)) in let h = steps.cut-small _ _ _ _ _ _ _ _ _ (i .part .within) (rw (c .before .refusal .given .1, c .before .before .before .before .before .before .before .before .before .before .loop .inv .1) at (c .before .before .before .skip-value .ensures)) in let r = steps.struct-room _ _ _ _ _ _ _ (c .before .before .before .before .before .before .before .before .before .before .loop .inv .0) in omega (arith, h, i .part .from, r .0, c .before .before .before .before .before .before .before .before .before .before .before .before .before .before .before .before .good .0))
+    (λ c t e. steps.struct-value-cut _ _ _ _ _ t e _ _ (c .before .before .before .before .before .before .before .before .before .before .loop .inv .0) (sym (c .before .before .before .before .before .is-stop .ensures) ∙ c .before .before .before .before .if1 .left) (told-as toldField (c .before .before .before .before .before .before .before .field .given .1) (c .before .before .before .before .before .before .before .before .before .read-field-begin .ensures)) (rw (c .before .refusal .given .1, c .before .before .before .before .before .before .before .before .before .before .loop .inv .1) at (c .before .before .before .skip-value .ensures)))
     (λ c. search needs)
-    (λ c. steps.struct-head-cut _ _ _ _ _ _ _ _ _ (c .before .before .before .before .loop .inv .0) (told-as toldField (c .before .refusal2 .given .1) (c .before .before .before .read-field-begin .ensures)))
+    (λ c t e. steps.struct-head-cut _ _ _ _ _ t e _ _ _ _ (c .before .before .before .before .loop .inv .0) (told-as toldField (c .before .refusal2 .given .1) (c .before .before .before .read-field-begin .ensures)))
     (λ c. search needs)
-    (λ c. steps.own-refused _ _ _ _ _ Sh.Fields _ _ (λ z. omega (arith, c .before .before .before .before .before .pre .1)) (ap judged (told-as toldDepth (c .before .refusal3 .given .1) (c .before .before .before .read-struct-begin .ensures)))))
+    (λ c t e. steps.struct-refused _ _ _ _ _ t e _ _ (λ z. omega (arith, c .before .before .before .before .before .pre .1)) (told-as toldDepth (c .before .refusal3 .given .1) (c .before .before .before .read-struct-begin .ensures))))
     (λ t. skip-value-lts.spec (skip-value-claims t) (skip-value-at t) skip-value.Post
     (λ c κs. search needs)
-    (λ c. let a = c .before .before .before .args in deep-answers (a .config) (a .bytes .now) (a .cursor .at) (a .depth) (a .struct-depth) (shapeOf (a .field-type)) (c .before .if1 .taken) (c .refused .ensures))
+    (λ c. let a = c .before .before .before .args in steps.deep-answers (a .config) (a .bytes .now) (a .cursor .at) (a .depth) (a .struct-depth) (a .field-type) (c .before .if1 .taken) (c .refused .ensures))
     (λ c κs. search needs)
     (λ c. search needs)
     (λ c κs. search needs)
@@ -221,9 +211,9 @@ pub +skip-list+skip-map+skip-struct+skip-value-spec : {M : Type 1} → statement
     (λ c κs. (omega (arith, c .before .before .before .before .before .pre .0), omega (arith, c .before .before .before .if1 .left)))
     (λ c. search needs)
     (λ c κs. search needs)
-    (λ c. let a = c .before .before .before .before .before .before .before .args in shape-answers (a .config) (a .bytes .now) (a .cursor .at) (a .depth) (a .struct-depth) (toldWalked (c .skip-fixed .result)) (sym (c .before .before .before .before .shape-of .ensures) ∙ c .before .before .width .given .1) (fixed-answers (a .config) (a .bytes .now) (a .cursor .at) (a .depth) (a .struct-depth) (c .before .before .width .given .0 .0) (c .before .before .before .before .before .if1 .left) (fixed-width (a .field-type) (c .before .before .width .given .0 .0) (sym (c .before .before .before .before .shape-of .ensures) ∙ c .before .before .width .given .1) .some) (c .skip-fixed .ensures)))
-    (λ c. let a = c .before .before .before .before .before .before .args in shape-answers (a .config) (a .bytes .now) (a .cursor .at) (a .depth) (a .struct-depth) (toldWalked (c .skip-text .result)) (sym (c .before .before .before .shape-of .ensures) ∙ c .before .enum-told .given .1) (text-answers (a .config) (a .bytes .now) (a .cursor .at) (a .depth) (a .struct-depth) (λ i. c .before .before .before .before .before .shared-slice-known .given i .fits) (c .before .before .before .before .if1 .left) (c .skip-text .ensures)))
-    (λ c. let a = c .before .before .before .before .before .before .args in shape-answers (a .config) (a .bytes .now) (a .cursor .at) (a .depth) (a .struct-depth) (toldWalked (c .skip-struct .result)) (sym (c .before .before .before .shape-of .ensures) ∙ c .before .enum-told2 .given .1) (c .skip-struct .ensures))
-    (λ c. let a = c .before .before .before .before .before .before .args in shape-answers (a .config) (a .bytes .now) (a .cursor .at) (a .depth) (a .struct-depth) (toldWalked (c .skip-list .result)) (sym (c .before .before .before .shape-of .ensures) ∙ c .before .enum-told3 .given .1) (c .skip-list .ensures))
-    (λ c. let a = c .before .before .before .before .before .before .args in shape-answers (a .config) (a .bytes .now) (a .cursor .at) (a .depth) (a .struct-depth) (toldWalked (c .skip-map .result)) (sym (c .before .before .before .shape-of .ensures) ∙ c .before .enum-told4 .given .1) (c .skip-map .ensures))
-    (λ c. let a = c .before .before .before .before .before .before .args in shape-answers (a .config) (a .bytes .now) (a .cursor .at) (a .depth) (a .struct-depth) (toldWalked (c .refused2 .result)) (sym (c .before .before .before .shape-of .ensures) ∙ c .before .enum-told5 .given .1) (unfit-answers (a .config) (a .bytes .now) (a .cursor .at) (a .depth) (a .struct-depth) (c .before .before .before .before .if1 .left) (c .refused2 .ensures))))
+    (λ c. let a = c .before .before .before .before .before .before .before .args in steps.leaf-answers (a .config) (a .bytes .now) (a .cursor .at) (a .depth) (a .struct-depth) (λ i. c .before .before .before .before .before .before .shared-slice-known .given i .fits) (a .field-type) (Sh.Fixed (c .before .before .width .given .0 .0)) (c .before .before .before .before .before .if1 .left) (sym (c .before .before .before .before .shape-of .ensures) ∙ c .before .before .width .given .1) refl (c .skip-fixed .ensures))
+    (λ c. let a = c .before .before .before .before .before .before .args in steps.leaf-answers (a .config) (a .bytes .now) (a .cursor .at) (a .depth) (a .struct-depth) (λ i. c .before .before .before .before .before .shared-slice-known .given i .fits) (a .field-type) Sh.Text (c .before .before .before .before .if1 .left) (sym (c .before .before .before .shape-of .ensures) ∙ c .before .enum-told .given .1) refl (c .skip-text .ensures))
+    (λ c. c .skip-struct .ensures (c .before .before .before .before .before .before .args .field-type) (sym (c .before .before .before .shape-of .ensures) ∙ c .before .enum-told2 .given .1))
+    (λ c. c .skip-list .ensures (c .before .before .before .before .before .before .args .field-type) (sym (c .before .before .before .shape-of .ensures) ∙ c .before .enum-told3 .given .1))
+    (λ c. c .skip-map .ensures (c .before .before .before .before .before .before .args .field-type) (sym (c .before .before .before .shape-of .ensures) ∙ c .before .enum-told4 .given .1))
+    (λ c. let a = c .before .before .before .before .before .before .args in steps.leaf-answers (a .config) (a .bytes .now) (a .cursor .at) (a .depth) (a .struct-depth) (λ i. c .before .before .before .before .before .shared-slice-known .given i .fits) (a .field-type) Sh.Unfit (c .before .before .before .before .if1 .left) (sym (c .before .before .before .shape-of .ensures) ∙ c .before .enum-told5 .given .1) refl (c .refused2 .ensures)))
