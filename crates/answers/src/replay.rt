@@ -1,6 +1,6 @@
 // One line: the call that it stands for, made, and the answer held against the line's.
 use crate::line;
-use rows::Stepped;
+use probe_rows::Stepped;
 use text::Span;
 
 fn equal(a: &[u8], b: &[u8]) -> bool {
@@ -61,7 +61,7 @@ fn same_read(line: &[u8]) -> bool {
     let at = line::numbers(line, 2, &mut w);
     let mut input = [0u8; 64];
     let length = line::bytes(line, at, &mut input).value;
-    let call = read_steps::asked_with(
+    let call = probe_reads::asked_with(
         w[16] as usize,
         small(w[7]),
         small(w[8]),
@@ -74,7 +74,7 @@ fn same_read(line: &[u8]) -> bool {
         w[15] as usize,
     );
     same_row(
-        read_steps::by_number(front(&input, length), small(w[6]), call),
+        probe_reads::by_number(front(&input, length), small(w[6]), call),
         &w,
     )
 }
@@ -104,7 +104,7 @@ fn write_step(w: &[u64; 17], text: &[u8], out: &mut [u8]) -> Stepped {
     if out.len() < length {
         return Stepped::Unknown;
     }
-    let call = write_steps::asked_with(
+    let call = probe_writes::asked_with(
         w[14] as usize,
         small(w[7]),
         small(w[8]),
@@ -114,7 +114,7 @@ fn write_step(w: &[u64; 17], text: &[u8], out: &mut [u8]) -> Stepped {
         w[12] as usize,
         w[13] as usize,
     );
-    write_steps::by_number(&mut out[0..length], small(w[6]), call, text)
+    probe_writes::by_number(&mut out[0..length], small(w[6]), call, text)
 }
 
 fn put_at(bytes: &[u8], place: usize, out: &mut [u8]) {

@@ -34,8 +34,8 @@ use Rattle.tree.proofs.Places.{Later, here-later, mapped-later, within-later}
 use Rattle.tree.proofs.Mapped.{unmapped, mapped-gives}
 use Rattle.tree.proofs.MoreRoom.{text-more, size-more}
 use Rattle.tree.proofs.Laws as laws
-use Rattle.binary.specs.Layouts.{ShapeBytes, HeadBytes, ListBytes, MapBytes}
-use Rattle.binary.specs.Binary.{viewOf, shapeAt, heading, asItems, asPaired, binary}
+use Rattle.binary.specs.Layouts.{HeadBytes, ListBytes, MapBytes}
+use Rattle.binary.specs.Binary.{seenAs, heading, asItems, asPaired, binary}
 use Rattle.binary.proofs.Heads.{text-is, field-is, stop-is, list-is, map-is, list-from, map-from}
 use Rattle.binary.proofs.Reading.{text-reads, field-reads, stop-reads, list-reads, map-reads}
 use Rattle.binary.proofs.Growth.{text-grows, field-grows, list-grows, map-grows}
@@ -43,7 +43,7 @@ use Rattle.binary.proofs.Places as places
 
 -- ---- reads
 
-shape-is : (c : TConfiguration) (k : Shape) (s : List ℕ) (at : ℕ) {e : ℕ} → Octets s → viewOf k ≡ leaf → gives tt e ≡ shapeAt c k s at → laws.There s at e (ShapeBytes c k)
+shape-is : (c : TConfiguration) (k : Shape) (s : List ℕ) (at : ℕ) {e : ℕ} → Octets s → seenAs k .view ≡ leaf → gives tt e ≡ seenAs k .read c s at → laws.There s at e (seenAs k .bytes c)
 shape-is c (Sh.Fixed w) s at o v f =
     let i = inside s at w f in
     record { bytes = take w (drop at s); part = within-part s at w f; holds = simp (length-take, length-drop) (omega (arith, i .room)) }
@@ -56,7 +56,7 @@ shape-is c Sh.Items s at o v f = clash (cc)
 shape-is c Sh.Pairs s at o v f = clash (cc)
 shape-is c Sh.Unfit s at o v f = clash (cc)
 
-shape-reads : (c : TConfiguration) (k : Shape) (s : List ℕ) (at : ℕ) {e : ℕ} (b : List ℕ) → ShapeBytes c k b → Part s at e b → gives tt e ≡ shapeAt c k s at
+shape-reads : (c : TConfiguration) (k : Shape) (s : List ℕ) (at : ℕ) {e : ℕ} (b : List ℕ) → seenAs k .bytes c b → Part s at e b → gives tt e ≡ seenAs k .read c s at
 shape-reads c (Sh.Fixed w) s at b h p = part-within b w h p
 shape-reads c Sh.Text s at b h p = ap judged (text-reads c (h .body) (h .fits) (part-is p (h .laid)))
 shape-reads c Sh.Fields s at b h p = absurd h
@@ -144,7 +144,7 @@ module _ (old new : TConfiguration) (r : Roomier old new) where
         map-grows = λ at h. grows-mapped (Unnamed old new d e x) asPaired _ _ (map-grows old new r d e i s x at h);
       }
     where
-      shape : (k : Shape) (at : ℕ) → at ≤ length s → Grows (Unnamed old new d e x) (shapeAt old k s at) (shapeAt new k (s ++ x) at)
+      shape : (k : Shape) (at : ℕ) → at ≤ length s → Grows (Unnamed old new d e x) (seenAs k .read old s at) (seenAs k .read new (s ++ x) at)
       shape (Sh.Fixed w) at h = within-grows (Unnamed old new d e x) s x (λ j. j .short refl) at w h
       shape Sh.Text at h = grows-mapped (Unnamed old new d e x) (λ _. tt) _ _ (text-grows old new r d e i s x at h)
       shape Sh.Fields at h = grows-same (Unnamed old new d e x) _
@@ -160,7 +160,7 @@ module _ (old new : TConfiguration) (r : Roomier old new) where
         map-more = λ b x h. record { laid = h .laid; key = h .key; value = h .value; fits = size-more old new r _ _ (h .fits) };
       }
     where
-      more : (k : Shape) (b : List ℕ) → ShapeBytes old k b → ShapeBytes new k b
+      more : (k : Shape) (b : List ℕ) → seenAs k .bytes old b → seenAs k .bytes new b
       more (Sh.Fixed w) b h = h
       more Sh.Text b h = record { body = h .body; laid = h .laid; fits = text-more old new r _ (h .fits) }
       more Sh.Fields b h = absurd h
@@ -179,7 +179,7 @@ binary-places =
       map-later = λ c s at. mapped-later asPaired at _ (places.map-later s c at);
     }
   where
-    shape : (c : TConfiguration) (k : Shape) (s : List ℕ) (at : ℕ) → Later at (shapeAt c k s at)
+    shape : (c : TConfiguration) (k : Shape) (s : List ℕ) (at : ℕ) → Later at (seenAs k .read c s at)
     shape c (Sh.Fixed w) s at = within-later s at w
     shape c Sh.Text s at = mapped-later (λ _. tt) at _ (places.sized-later s Body-of.Text (c .«max_string_size») at)
     shape c Sh.Fields s at = here-later 12 at
@@ -218,7 +218,7 @@ binary-weighs =
       map-weighs = λ c s at f. let m = unmapped asPaired (mapAt c s at) f in (omega (arith, map-from c s at (m .gave)), refl, refl);
     }
   where
-    weighs : (c : TConfiguration) (t : TType) (k : Shape) → shapeOf t ≡ k → (b : List ℕ) → ShapeBytes c k b → 1 ≤ length b + 0
+    weighs : (c : TConfiguration) (t : TType) (k : Shape) → shapeOf t ≡ k → (b : List ℕ) → seenAs k .bytes c b → 1 ≤ length b + 0
     weighs c t (Sh.Fixed w) e b h = omega (arith, fixed-some t w e)
     weighs c t Sh.Text e b h = rw (h .laid) (simp length-append (omega (arith, length-bytesOf 4 (length (h .body)))))
     weighs c t Sh.Fields e b h = absurd h

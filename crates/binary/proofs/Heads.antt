@@ -39,12 +39,12 @@ use Rattle.tree.specs.Part.{Part}
 use Rattle.tree.specs.Sizes.{LengthFits, SizeFits}
 use Rattle.tree.proofs.Parts.{part-to, part-is, part-join, part-length}
 use Rattle.tree.proofs.Heads.{clash, within-part, number-is, byte-part}
-use Rattle.binary.specs.Layouts.{Reads}
+use Rattle.binary.specs.Layouts.{Readable}
 
 -- a type byte that was read is the type's, and reads as the type
 pub record TypeIs (s : List ℕ) (at : ℕ) (t : TType) (next : ℕ) : Type 0 where
   pub part : Part s at next (typeByte t ∷ [])
-  pub reads : Reads t
+  pub reads : Readable t
 
 pub type-is : (s : List ℕ) (at : ℕ) {t : TType} {next : ℕ} → gives t next ≡ typeAt s at → TypeIs s at t next
 unfolding typeAt
@@ -137,7 +137,7 @@ count-is c least s at o {v} {next} h =
 
 pub record ListIs (c : TConfiguration) (s : List ℕ) (at : ℕ) (t : TType) (v : ℤ) (first : ℕ) : Type 0 where
   pub part : Part s at first (typeByte t ∷ bytesOf 4 (natAbs v))
-  pub reads : Reads t
+  pub reads : Readable t
   pub fits : SizeFits c (leastSize t) (natAbs v)
 
 pub list-is : (c : TConfiguration) (s : List ℕ) (at : ℕ) → Octets s → {t : TType} {v : ℤ} {first : ℕ} → gives (list t v) first ≡ listAt c s at
@@ -157,8 +157,8 @@ list-is c s at o {t} {v} {first} h =
 
 pub record MapIs (c : TConfiguration) (s : List ℕ) (at : ℕ) (k v : TType) (n : ℤ) (first : ℕ) : Type 0 where
   pub part : Part s at first (typeByte k ∷ typeByte v ∷ bytesOf 4 (natAbs n))
-  pub key : Reads k
-  pub value : Reads v
+  pub key : Readable k
+  pub value : Readable v
   pub fits : SizeFits c (leastSize k + leastSize v) (natAbs n)
 
 pub map-is : (c : TConfiguration) (s : List ℕ) (at : ℕ) → Octets s → {k v : TType} {n : ℤ} {first : ℕ} → gives (map k v n) first ≡ mapAt c s at
@@ -190,7 +190,7 @@ pub record FieldIs (s : List ℕ) (at : ℕ) (t : TType) (next : ℕ) : Type 0 w
   pub id : List ℕ
   pub part : Part s at next (typeByte t ∷ id)
   pub two : length id ≡ 2
-  pub reads : Reads t
+  pub reads : Readable t
 
 pub field-is : (s : List ℕ) (at : ℕ) {t : TType} {v : ℤ} {next : ℕ} → isStop t ≡ false → gives (field t v) next ≡ fieldAt s at → FieldIs s at t next
 unfolding fieldAt typeIn

@@ -1,5 +1,5 @@
 -- What the bytes of a tree say to the headers of `read`: where the bytes of a header stand, the read gives that header. Assumes nothing.
-use Prim.Native.Nat.{ℕ, _+_, _-_, _<_, zero-le}
+use Prim.Native.Nat.{ℕ, _+_, _<_, zero-le}
 use mathlib.Core.Path.{_≡_, refl, sym, ap, _∙_}
 use mathlib.Core.Bool.{false}
 use mathlib.Core.List.{List, [], _∷_}
@@ -15,7 +15,6 @@ use Rattle.wire.specs.Answer.{gives}
 use Rattle.codes.specs.Codes.{typeByte, isStop, leastSize}
 use Rattle.codes.specs.declared.TType.{TType}
 use Rattle.codes.specs.declared.TType.the-variants as T
-use Rattle.wire.proofs.Within.{whole}
 use Rattle.number.specs.BigEndian.{big, bytesOf}
 use Rattle.number.specs.Reads.{byteAt, i32At}
 use Rattle.number.proofs.Widths.{written, length-bytesOf}
@@ -32,9 +31,9 @@ use Rattle.tree.specs.Part.{Part}
 use Rattle.tree.specs.Sizes.{LengthFits, SizeFits}
 use Rattle.tree.proofs.Parts.{part-length, part-split}
 use Rattle.tree.proofs.Reading.{part-within, number-reads}
-use Rattle.binary.specs.Layouts.{Reads}
+use Rattle.binary.specs.Layouts.{Readable}
 
-pub type-reads : {s : List ℕ} {at e : ℕ} (t : TType) → Reads t → Part s at e (typeByte t ∷ []) → gives t e ≡ typeAt s at
+pub type-reads : {s : List ℕ} {at e : ℕ} (t : TType) → Readable t → Part s at e (typeByte t ∷ []) → gives t e ≡ typeAt s at
 unfolding big
 type-reads {s} {at} {e} t r p =
     let byte : gives (typeByte t) e ≡ byteAt s at = ap (λ (n : ℕ). gives n e) (omega arith) ∙ number-reads (typeByte t ∷ []) 1 (λ (n : ℕ). n) refl p in
@@ -66,20 +65,20 @@ pub count-reads : {s : List ℕ} {at e : ℕ} (c : TConfiguration) (least n : �
     → gives (pos n) e ≡ countAt c least s at
 count-reads {s} {at} {e} c least n f p = headers.count c least s at (size-reads n (f .not-negative) p) (f .container) (f .message)
 
-pub list-reads : {s : List ℕ} {at e : ℕ} (c : TConfiguration) (t : TType) (n : ℕ) → Reads t → SizeFits c (leastSize t) n
+pub list-reads : {s : List ℕ} {at e : ℕ} (c : TConfiguration) (t : TType) (n : ℕ) → Readable t → SizeFits c (leastSize t) n
     → Part s at e (typeByte t ∷ bytesOf 4 n) → gives (list t (pos n)) e ≡ listAt c s at
 list-reads {s} {at} {e} c t n r f p =
     let sp = part-split (typeByte t ∷ []) (bytesOf 4 n) p in
     headers.a-list c s at (type-reads t r (sp .left)) (count-reads c (leastSize t) n f (sp .right))
 
-pub map-reads : {s : List ℕ} {at e : ℕ} (c : TConfiguration) (k v : TType) (n : ℕ) → Reads k → Reads v → SizeFits c (leastSize k + leastSize v) n
+pub map-reads : {s : List ℕ} {at e : ℕ} (c : TConfiguration) (k v : TType) (n : ℕ) → Readable k → Readable v → SizeFits c (leastSize k + leastSize v) n
     → Part s at e (typeByte k ∷ typeByte v ∷ bytesOf 4 n) → gives (map k v (pos n)) e ≡ mapAt c s at
 map-reads {s} {at} {e} c k v n rk rv f p =
     let sp = part-split (typeByte k ∷ []) (typeByte v ∷ bytesOf 4 n) p in
     let sq = part-split (typeByte v ∷ []) (bytesOf 4 n) (sp .right) in
     headers.a-map c s at (type-reads k rk (sp .left)) (type-reads v rv (sq .left)) (count-reads c (leastSize k + leastSize v) n f (sq .right))
 
-pub field-reads : {s : List ℕ} {at e : ℕ} (t : TType) (id : List ℕ) → Reads t → isStop t ≡ false → length id ≡ 2 → Part s at e (typeByte t ∷ id)
+pub field-reads : {s : List ℕ} {at e : ℕ} (t : TType) (id : List ℕ) → Readable t → isStop t ≡ false → length id ≡ 2 → Part s at e (typeByte t ∷ id)
     → gives (field t (toZ w16 (big id))) e ≡ fieldAt s at
 field-reads {s} {at} {e} t id r g h p =
     let sp = part-split (typeByte t ∷ []) id p in

@@ -8,8 +8,6 @@ use Rattle.codes.specs.Codes.{typeByte, typeOf, isStop, leastSize}
 use Rattle.codes.specs.declared.TType.{TType}
 use Rattle.codes.specs.declared.TType.the-variants as T
 use Rattle.codes.specs.declared.Typed.the-variants as Type-of
-use Rattle.codes.specs.declared.shape.Shape.{Shape}
-use Rattle.codes.specs.declared.shape.Shape.the-variants as Sh
 use Rattle.config.specs.declared.configuration.TConfiguration.{TConfiguration}
 use Rattle.text.specs.Texts.{sizedLayout}
 use Rattle.read.specs.Layouts.{fieldLayout, listLayout, mapLayout}
@@ -17,8 +15,8 @@ use Rattle.tree.specs.Sizes.{LengthFits, SizeFits}
 use Rattle.tree.specs.Coding.{Items, Paired, Heading, stop, going}
 
 -- "Utf7 writes as 0B; 0B reads as String": a type in a header is one that its byte reads as, which is every one but Utf7
-abbrev pub Reads : TType → Type 0
-Reads t = typeOf (typeByte t) ≡ Type-of.Known t
+abbrev pub Readable : TType → Type 0
+Readable t = typeOf (typeByte t) ≡ Type-of.Known t
 
 -- "a string its length and body, no UTF-8 check"
 pub record TextBytes (c : TConfiguration) (b : List ℕ) : Type 0 where
@@ -26,21 +24,12 @@ pub record TextBytes (c : TConfiguration) (b : List ℕ) : Type 0 where
   pub laid : b ≡ sizedLayout body
   pub fits : LengthFits c (length body)
 
--- "a scalar or a UUID passes its bytes", so many as its type has; "Stop, Void and Utf7 are 12"; the others have values in them
-abbrev pub ShapeBytes : TConfiguration → Shape → List ℕ → Type 0
-ShapeBytes c (Sh.Fixed n) b = length b ≡ n
-ShapeBytes c Sh.Text b = TextBytes c b
-ShapeBytes c Sh.Unfit b = ⊥
-ShapeBytes c Sh.Fields b = ⊥
-ShapeBytes c Sh.Items b = ⊥
-ShapeBytes c Sh.Pairs b = ⊥
-
 -- a field that goes on: its type byte is known and no Stop, then "a 16-bit id"
 pub record FieldBytes (b : List ℕ) (t : TType) : Type 0 where
   pub id : List ℕ
   pub laid : b ≡ fieldLayout t id
   pub two : length id ≡ 2
-  pub reads : Reads t
+  pub reads : Readable t
   pub going : isStop t ≡ false
 
 -- "00 is Stop with id 0 and nothing more"
@@ -51,12 +40,12 @@ HeadBytes b (going t u) = FieldBytes b t
 -- "List and set: type byte (5), size"
 pub record ListBytes (c : TConfiguration) (b : List ℕ) (x : Items TType) : Type 0 where
   pub laid : b ≡ listLayout (x .element) (x .size)
-  pub reads : Reads (x .element)
+  pub reads : Readable (x .element)
   pub fits : SizeFits c (leastSize (x .element)) (x .size)
 
 -- "Map: key type (5), value type (5), size", for rule 9 "key plus value sizes"
 pub record MapBytes (c : TConfiguration) (b : List ℕ) (x : Paired TType) : Type 0 where
   pub laid : b ≡ mapLayout (x .key) (x .value) (x .size)
-  pub key : Reads (x .key)
-  pub value : Reads (x .value)
+  pub key : Readable (x .key)
+  pub value : Readable (x .value)
   pub fits : SizeFits c (leastSize (x .key) + leastSize (x .value)) (x .size)

@@ -9,7 +9,7 @@ use Rattle.wire.specs.Writes.{inFront}
 use Rattle.wire.proofs.Writes.{behind, unfronted}
 use Rattle.number.specs.BigEndian.{bytesOf}
 use Rattle.number.proofs.Widths.{length-bytesOf}
-use Rattle.rows.specs.declared.Row.{Row}
+use Rattle.probe_rows.specs.declared.Row.{Row}
 use Rattle.probe.specs.Kept.{six, filled}
 
 -- a part put at a place of d, up to its end

@@ -6,12 +6,12 @@ use mathlib.Core.List.{List}
 use lib.ListN.{length}
 use lib.Dec.{ltb}
 use borrow.Author.Tests.{lt-ltb, le-ltb}
-use Rattle.rows.specs.declared.Stepped.{Stepped}
-use Rattle.rows.specs.declared.Stepped.the-variants as To
-use Rattle.asked.specs.declared.ReadStep.{ReadStep}
-use Rattle.read_steps.specs.declared.Reading.{Reading}
-use Rattle.read_steps.specs.Reads.{ReadSays}
-use Rattle.read_steps.proofs.Steps.{read-step-settled}
+use Rattle.probe_rows.specs.declared.Stepped.{Stepped}
+use Rattle.probe_rows.specs.declared.Stepped.the-variants as To
+use Rattle.probe_numbers.specs.declared.ReadStep.{ReadStep}
+use Rattle.probe_reads.specs.declared.Reading.{Reading}
+use Rattle.probe_reads.specs.Reads.{ReadSays}
+use Rattle.probe_reads.proofs.Steps.{read-step-settled}
 use Rattle.probe.specs.Kept.{Left}
 use Rattle.probe.specs.Reads.{ReadByLength, Read}
 

@@ -6,8 +6,8 @@ use mathlib.Core.List.{List}
 use lib.ListN.{length}
 use lib.Dec.{ltb}
 use borrow.Author.Tests.{lt-ltb, le-ltb}
-use Rattle.rows.specs.declared.Stepped.{Stepped}
-use Rattle.write_steps.specs.Writes.{Does, comesTo, WriteSays}
+use Rattle.probe_rows.specs.declared.Stepped.{Stepped}
+use Rattle.probe_writes.specs.Writes.{Does, comesTo, WriteSays}
 use Rattle.probe.specs.Kept.{Left}
 use Rattle.probe.specs.Writes.{WrittenByLength, Written}
 use Rattle.probe.proofs.Steps.{left-settled}

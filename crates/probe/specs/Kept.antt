@@ -4,9 +4,9 @@ use mathlib.Core.Path.{_≡_}
 use mathlib.Core.List.{List, _++_}
 use lib.ListN.{drop}
 use Rattle.number.specs.BigEndian.{bytesOf}
-use Rattle.rows.specs.declared.Row.{Row}
-use Rattle.rows.specs.declared.Stepped.{Stepped}
-use Rattle.rows.specs.declared.Stepped.the-variants as To
+use Rattle.probe_rows.specs.declared.Row.{Row}
+use Rattle.probe_rows.specs.declared.Stepped.{Stepped}
+use Rattle.probe_rows.specs.declared.Stepped.the-variants as To
 
 abbrev pub six : Row → List ℕ
 six w = ((((bytesOf 8 (w .number) ++ bytesOf 8 (w .place)) ++ bytesOf 8 (w .a)) ++ bytesOf 8 (w .b)) ++ bytesOf 8 (w .c)) ++ bytesOf 8 (w .d)

@@ -5,10 +5,10 @@ use mathlib.Core.Bool.{Bool, true, false}
 use mathlib.Core.List.{List}
 use lib.Dec.{ltb}
 use lib.ListN.{length}
-use Rattle.rows.specs.declared.Stepped.{Stepped}
-use Rattle.asked.specs.declared.ReadStep.{ReadStep}
-use Rattle.read_steps.specs.declared.Reading.{Reading}
-use Rattle.read_steps.specs.Reads.{ReadSays}
+use Rattle.probe_rows.specs.declared.Stepped.{Stepped}
+use Rattle.probe_numbers.specs.declared.ReadStep.{ReadStep}
+use Rattle.probe_reads.specs.declared.Reading.{Reading}
+use Rattle.probe_reads.specs.Reads.{ReadSays}
 use Rattle.probe.specs.Kept.{Left}
 
 -- what was left by what the step came to

@@ -5,7 +5,7 @@ use mathlib.Core.Bool.{Bool, true, false}
 use mathlib.Core.List.{List}
 use lib.Dec.{ltb}
 use lib.ListN.{length}
-use Rattle.write_steps.specs.Writes.{Does, comesTo, buffer}
+use Rattle.probe_writes.specs.Writes.{Does, comesTo, buffer}
 use Rattle.probe.specs.Kept.{Left}
 
 -- the record, the return and every byte of the buffer

@@ -1,6 +1,6 @@
 // The lent record: six numbers.
-use rows::Row;
-use rows::Stepped;
+use probe_rows::Row;
+use probe_rows::Stepped;
 ghost use mathlib.Core.Path.{_≡_};
 ghost use Prim.Native.Nat.{_≤_};
 ghost use lib.ListN.{length};

@@ -1,9 +1,9 @@
 // Single reads and writes for C and Rust, each asked for by a number, with its answer in a lent record.
 mod kept;
 
-ghost use Rattle.asked.specs.Asked.{readStepOf, writeStepOf, limitsOf};
-ghost use Rattle.read_steps.specs.Reads.{readingOf};
-ghost use Rattle.write_steps.specs.Writes.{writingOf, doesOf};
+ghost use Rattle.probe_numbers.specs.Numbers.{readStepOf, writeStepOf, limitsOf};
+ghost use Rattle.probe_reads.specs.Reads.{readingOf};
+ghost use Rattle.probe_writes.specs.Writes.{writingOf, doesOf};
 ghost use Rattle.probe.specs.Reads.{Read};
 ghost use Rattle.probe.specs.Writes.{Written};
 
@@ -30,7 +30,7 @@ pub extern "C" fn thrift_read(
     if kept.len() < 48 {
         return 15;
     }
-    let call = read_steps::asked_with(
+    let call = probe_reads::asked_with(
         place,
         strict,
         kind,
@@ -42,7 +42,7 @@ pub extern "C" fn thrift_read(
         container,
         string,
     );
-    kept::keep(kept, read_steps::by_number(bytes, step, call))
+    kept::keep(kept, probe_reads::by_number(bytes, step, call))
 }
 
 // The same of a write, which also returns 255 for a message type that there is not and a UUID that has not 16 bytes.
@@ -66,7 +66,7 @@ pub extern "C" fn thrift_write(
     if kept.len() < 48 {
         return 15;
     }
-    let call = write_steps::asked_with(
+    let call = probe_writes::asked_with(
         place,
         strict,
         kind,
@@ -76,5 +76,5 @@ pub extern "C" fn thrift_write(
         struct_depth,
         structs,
     );
-    kept::keep(kept, write_steps::by_number(out, step, call, text))
+    kept::keep(kept, probe_writes::by_number(out, step, call, text))
 }

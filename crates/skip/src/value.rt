@@ -12,9 +12,9 @@ use wire::cursor::Cursor;
 use wire::refusal::Kind;
 ghost use mathlib.Core.Path.{_≡_};
 ghost use Prim.Native.Nat.{_<_};
-ghost use Rattle.tree.specs.Answers.{Answers};
+ghost use Rattle.tree.specs.Coding.{fields, items, pairs};
+ghost use Rattle.tree.specs.Answers.{Answers, EachAnswers};
 ghost use Rattle.binary.specs.Binary.{binary};
-ghost use Rattle.skip.specs.Shapes.{EachAnswers};
 ghost use Rattle.leaf.specs.Told.{toldWalked};
 
 pub(crate) fn skip_value(
@@ -49,7 +49,7 @@ fn skip_struct(
     config: TConfiguration,
 ) -> Walked
     requires { ⌜ 0 < depth ⌝ }
-    ensures { λ r. ⌜ EachAnswers Shape.Fields config (now (bytes .entry)) start depth «struct_depth» (toldWalked r) ⌝ }
+    ensures { λ r. ⌜ EachAnswers binary fields config (now (bytes .entry)) start depth «struct_depth» (toldWalked r) ⌝ }
 {
     match nesting::read_struct_begin(bytes, Cursor { at: start }, struct_depth, config) {
         DepthRead::Value(inner, _) => {
@@ -91,7 +91,7 @@ fn skip_list(
     config: TConfiguration,
 ) -> Walked
     requires { ⌜ 0 < depth ⌝ }
-    ensures { λ r. ⌜ EachAnswers Shape.Items config (now (bytes .entry)) start depth «struct_depth» (toldWalked r) ⌝ }
+    ensures { λ r. ⌜ EachAnswers binary items config (now (bytes .entry)) start depth «struct_depth» (toldWalked r) ⌝ }
 {
     match read::container::read_list_begin(bytes, Cursor { at: start }, config) {
         ListRead::Value(list, first) => {
@@ -128,7 +128,7 @@ fn skip_map(
     config: TConfiguration,
 ) -> Walked
     requires { ⌜ 0 < depth ⌝ }
-    ensures { λ r. ⌜ EachAnswers Shape.Pairs config (now (bytes .entry)) start depth «struct_depth» (toldWalked r) ⌝ }
+    ensures { λ r. ⌜ EachAnswers binary pairs config (now (bytes .entry)) start depth «struct_depth» (toldWalked r) ⌝ }
 {
     match read::container::read_map_begin(bytes, Cursor { at: start }, config) {
         MapRead::Value(map, first) => {

@@ -2,12 +2,10 @@
 use Prim.Native.Nat.{ℕ, _<_}
 use mathlib.Core.Path.{_≡_, refl, sym, ap}
 use mathlib.Core.List.{List, [], _∷_}
-use lib.IntN.{pos}
 use native.Mathlib.Omega.{arith}
 use borrow.Author.Needs.{needs}
-use Rattle.wire.specs.Answer.{Answer, gives, refuseIf, andThen, stayAt, within, itemAt}
+use Rattle.wire.specs.Answer.{Answer, gives, refused, refuseIf, andThen, stayAt, within, itemAt}
 use Rattle.wire.specs.Writes.{roomFor, laid, writeAt}
-use Rattle.codes.specs.declared.shape.Shape.the-variants as Sh
 use Rattle.codes.proofs.Tables.{Each, entry}
 use Rattle.codes.specs.declared.TType.{TType}
 use Rattle.codes.specs.declared.TType.the-variants as T
@@ -26,11 +24,11 @@ use Rattle.text.proofs.Texts as texts
 use Rattle.read.specs.Headers.{typeAt, fieldAt, countAt, listAt}
 use Rattle.nesting.specs.Structs.{structBeginAt}
 use Rattle.message.specs.Messages.{messageTypeAt, sequenceAt, versionedAt, unversionedAt, messageAt}
-use Rattle.tree.specs.Answers.{Outcome, ended, cut-off, SkipAnswers, Stands, IsCut}
+use Rattle.tree.specs.Answers.{Outcome, SkipAnswers, Stands, IsCut}
 use Rattle.tree.proofs.Only.{skip-only}
+use Rattle.tree.proofs.Steps as steps
 use Rattle.binary.specs.Binary.{binary}
 use Rattle.binary.proofs.Binary.{binary-reads}
-use Rattle.binary.proofs.Steps as steps
 use Rattle.skip.specs.Skips.{toldSkipped}
 use Rattle.write_headers.specs.Outputs.{fieldOutput}
 use Rattle.framed.specs.Frames.{frameAt}
@@ -58,56 +56,56 @@ octets : (s : List ℕ) → Each (λ n b. b < 256) 0 s → Octets s
 octets s e i = entry (λ n b. b < 256) 0 s 0 e (λ n. omega arith) i
 
 -- W5 to W8: a list's header, and its elements as far as they go
-begun : (d : ℕ) → 0 < d → steps.ListLoop defaultLimits two-bytes 0 d 0 T.I08 (pos 2) 5 5 1 0
+begun : (d : ℕ) → 0 < d → steps.ListLoop binary defaultLimits two-bytes 0 d 0 (record { element = T.I08; size = 2 }) 5 5 1 0
 unfolding listAt typeAt countAt sizeAt numberAt itemAt big within refuseIf andThen
-begun d deep = steps.list-start defaultLimits two-bytes 0 d 0 (octets two-bytes (search needs)) deep refl
+begun d deep = steps.list-start binary binary-reads defaultLimits two-bytes 0 d 0 (octets two-bytes (search needs)) deep refl
 
 two-elements : Stands binary defaultLimits two-bytes 0 2 0 T.List 7 3
 unfolding within refuseIf
 two-elements =
     let o = octets two-bytes (search needs) in
-    steps.list-stands defaultLimits two-bytes 0 2 0 T.List refl o
-    (steps.list-more defaultLimits two-bytes 0 2 0
-    (steps.list-more defaultLimits two-bytes 0 2 0 (begun 2 (omega arith)) (omega arith)
-    (steps.leaf-answers defaultLimits two-bytes 5 1 0 o T.I08 (Sh.Fixed 1) (λ z. omega arith) refl refl {x = ended 6 1} refl)) (omega arith)
-    (steps.leaf-answers defaultLimits two-bytes 6 1 0 o T.I08 (Sh.Fixed 1) (λ z. omega arith) refl refl {x = ended 7 1} refl))
+    steps.list-stands binary binary-reads defaultLimits two-bytes 0 2 0 T.List refl o
+    (steps.list-more binary binary-reads defaultLimits two-bytes 0 2 0
+    (steps.list-more binary binary-reads defaultLimits two-bytes 0 2 0 (begun 2 (omega arith)) (omega arith)
+    (steps.leaf-answers binary binary-reads defaultLimits two-bytes 5 1 0 o T.I08 (λ z. omega arith) refl (gives tt 6) refl)) (omega arith)
+    (steps.leaf-answers binary binary-reads defaultLimits two-bytes 6 1 0 o T.I08 (λ z. omega arith) refl (gives tt 7) refl))
     (omega arith)
 
 no-depth-left : IsCut binary defaultLimits two-bytes 0 1 0 T.List 10 5 2
 no-depth-left =
-    steps.list-cut defaultLimits two-bytes 0 1 0 T.List refl (begun 1 (omega arith)) (omega arith)
-    (steps.deep-answers defaultLimits two-bytes 5 0 0 T.I08 {x = cut-off 10 5 1} refl refl)
+    steps.list-cut binary binary-reads defaultLimits two-bytes 0 1 0 T.List refl (begun 1 (omega arith)) (omega arith)
+    (steps.too-deep binary binary-reads defaultLimits two-bytes 5 0 0 T.I08 refl)
 
 no-elements : Stands binary defaultLimits (voids 0) 0 1 0 T.List 5 1
 unfolding listAt typeAt countAt sizeAt numberAt itemAt big within refuseIf andThen
 no-elements =
     let o = octets (voids 0) (search needs) in
-    steps.list-stands defaultLimits (voids 0) 0 1 0 T.List refl o (steps.list-start defaultLimits (voids 0) 0 1 0 o {t = T.Void} {size = pos 0} {first = 5} (omega arith) refl) (omega arith)
+    steps.list-stands binary binary-reads defaultLimits (voids 0) 0 1 0 T.List refl o (steps.list-start binary binary-reads defaultLimits (voids 0) 0 1 0 o {x = record { element = T.Void; size = 0 }} {first = 5} (omega arith) refl) (omega arith)
 
 a-void : IsCut binary defaultLimits (voids 1) 0 2 0 T.List 12 5 2
 unfolding listAt typeAt countAt sizeAt numberAt itemAt big within refuseIf andThen
 a-void =
     let o = octets (voids 1) (search needs) in
-    steps.list-cut defaultLimits (voids 1) 0 2 0 T.List refl
-    (steps.list-start defaultLimits (voids 1) 0 2 0 o {t = T.Void} {size = pos 1} {first = 5} (omega arith) refl) (omega arith)
-    (steps.leaf-answers defaultLimits (voids 1) 5 1 0 o T.Void Sh.Unfit (λ z. omega arith) refl refl {x = cut-off 12 5 1} refl)
+    steps.list-cut binary binary-reads defaultLimits (voids 1) 0 2 0 T.List refl
+    (steps.list-start binary binary-reads defaultLimits (voids 1) 0 2 0 o {x = record { element = T.Void; size = 1 }} {first = 5} (omega arith) refl) (omega arith)
+    (steps.leaf-answers binary binary-reads defaultLimits (voids 1) 5 1 0 o T.Void (λ z. omega arith) refl (refused 12 5) refl)
 
 -- W9: the field of four bytes, then the stop
 a-struct : Stands binary defaultLimits i32-field 0 2 0 T.Struct 8 2
 unfolding structBeginAt fieldAt typeAt numberAt itemAt big stayAt within refuseIf andThen
 a-struct =
-    steps.struct-stands defaultLimits i32-field 0 2 0 T.Struct refl 7 2 {t = T.Stop} {id = pos 0}
-    (steps.struct-more defaultLimits i32-field 0 2 0 0 1 {t = T.I32} {id = pos 1} {p = 3} {e = 7}
-    (steps.struct-start defaultLimits i32-field 0 2 0 {inner = 1} {p = 0} (omega arith) refl) refl refl
-    (steps.leaf-answers defaultLimits i32-field 3 1 1 (octets i32-field (search needs)) T.I32 (Sh.Fixed 4) (λ z. omega arith) refl refl {x = ended 7 1} refl))
-    refl refl
+    steps.struct-stands binary binary-reads defaultLimits i32-field 0 2 0 T.Struct refl 7 2
+    (steps.struct-more binary binary-reads defaultLimits i32-field 0 2 0 0 1 {t = T.I32} {p = 3} {e = 7}
+    (steps.struct-start binary binary-reads defaultLimits i32-field 0 2 0 {inner = 1} {p = 0} (omega arith) refl) refl
+    (steps.leaf-answers binary binary-reads defaultLimits i32-field 3 1 1 (octets i32-field (search needs)) T.I32 (λ z. omega arith) refl (gives tt 7) refl))
+    refl
 
 -- W10: the size is negative
 negative : IsCut binary defaultLimits (0xFF ∷ 0xFF ∷ 0xFF ∷ 0xFF ∷ []) 0 64 0 T.String 6 0 1
 unfolding sizedAt limitedAt sizeAt numberAt itemAt big within refuseIf andThen
 negative =
     let s : List ℕ = 0xFF ∷ 0xFF ∷ 0xFF ∷ 0xFF ∷ [] in
-    steps.leaf-answers defaultLimits s 0 64 0 (octets s (search needs)) T.String Sh.Text (λ z. omega arith) refl refl {x = cut-off 6 0 1} refl
+    steps.leaf-answers binary binary-reads defaultLimits s 0 64 0 (octets s (search needs)) T.String (λ z. omega arith) refl (refused 6 0) refl
 
 pub every-case : Every table
 unfolding messageAt versionedAt unversionedAt messageTypeAt sequenceAt frameAt sizedAt limitedAt sizeAt numberAt itemAt stayAt within refuseIf andThen big bytesOf fieldOutput writeAt roomFor laid
@@ -118,9 +116,9 @@ every-case = (
     (
       (refl, refl),
       (
-        the-one T.Bool 1 (0x02 ∷ []) _ (steps.leaf-answers defaultLimits (0x02 ∷ []) 0 1 0 (octets (0x02 ∷ []) (search needs)) T.Bool (Sh.Fixed 1) (λ z. omega arith) refl refl {x = ended 1 1} refl),
+        the-one T.Bool 1 (0x02 ∷ []) _ (steps.leaf-answers binary binary-reads defaultLimits (0x02 ∷ []) 0 1 0 (octets (0x02 ∷ []) (search needs)) T.Bool (λ z. omega arith) refl (gives tt 1) refl),
         (
-          the-one T.Bool 0 (0x02 ∷ []) _ (steps.deep-answers defaultLimits (0x02 ∷ []) 0 0 0 T.Bool {x = cut-off 10 0 1} refl refl),
+          the-one T.Bool 0 (0x02 ∷ []) _ (steps.too-deep binary binary-reads defaultLimits (0x02 ∷ []) 0 0 0 T.Bool refl),
           (
             the-one T.List 2 two-bytes _ two-elements,
             (

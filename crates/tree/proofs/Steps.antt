@@ -15,7 +15,7 @@ use Rattle.tree.proofs.Parts.{part-none, part-join, part-length}
 use Rattle.tree.proofs.Heads.{struct-is}
 use Rattle.tree.specs.Coding.{View, leaf, fields, items, pairs as pairs-view, Items, Paired, stop, going, Coding}
 use Rattle.tree.specs.Tree.{Fields, Trees, Pairs, leaf as leaf-of, struct, list as list-of, map as map-of, nil, snoc, none, then, empty, with, layout, fieldsLayout, treesLayout, pairsLayout, valuesOf, fieldsValues, treesValues, pairsValues, countOf, pairsOf, stateOf, Fits, FieldsFit, TreesFit, PairsFit}
-use Rattle.tree.specs.Answers.{viewOwn, ownAt, here, head, field-value, element, key, value, begunOf, leafOutcome, OpenStruct, OpenMap, Faults, Stands, IsCut, Answers}
+use Rattle.tree.specs.Answers.{viewOwn, ownAt, here, head, field-value, element, key, value, begunOf, Outcome, cut-off, leafOutcome, OpenStruct, OpenMap, Faults, Stands, IsCut, Answers}
 use Rattle.tree.proofs.Laws as laws
 use Rattle.tree.proofs.Bounds.{fields-le, trees-le, pairs-le}
 
@@ -61,6 +61,9 @@ module _ (C : Coding) (L : laws.Reads C) (c : TConfiguration) (s : List ℕ) (at
   pub too-deep : (k : C .Kind) → d ≡ 0 → IsCut C c s at d sd k 10 at 1
   unfolding ownAt refuseIf
   too-deep k z = refused-here k 10 at (rw (eq-eqb d 0 z))
+
+  pub deep-answers : (k : C .Kind) {x : Outcome} → d ≡ 0 → x ≡ cut-off 10 at 1 → Answers C c s at d sd k x
+  deep-answers k z e = subst (Answers C c s at d sd k) (sym e) (too-deep k z)
 
   -- with depth left, a value's own refusal is its view's
   pub own-refused : (k : C .Kind) (v : View) (n p : ℕ) → (d ≡ 0 → ⊥) → C .view k ≡ v → refused n p ≡ viewOwn C c sd k s at v → IsCut C c s at d sd k n p 1

@@ -138,6 +138,10 @@ abbrev pub Answers : (C : Coding) → TConfiguration → List ℕ → ℕ → �
 Answers C c s at d sd k (ended e count) = Stands C c s at d sd k e count
 Answers C c s at d sd k (cut-off n p count) = IsCut C c s at d sd k n p count
 
+-- what the skip of a struct, of a list or set, or of a map answers: that of each kind whose values hold such
+abbrev pub EachAnswers : (C : Coding) → View → TConfiguration → List ℕ → ℕ → ℕ → ℕ → Outcome → Type 0
+EachAnswers C v c s at d sd x = (k : C .Kind) → C .view k ≡ v → Answers C c s at d sd k x
+
 -- "Order at every entry: 2, 20", with count 0, then the value
 abbrev pub skipEntry : ℕ → ℕ → List ℕ → ℕ → Answer Unit
 skipEntry d sd s at = depthEntry sd s at (refuseIf (ltb 127 d) 20 at (gives tt at))

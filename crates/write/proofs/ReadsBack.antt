@@ -1,6 +1,6 @@
 -- What is written reads back, over any bytes before and after: each kind by the definition of its read, at the place where it was written, to the
 -- place where the write ended. Not so, by 01: a Stop with an id, a negative size, a NaN's payload as a float. Assumes nothing.
-use Prim.Native.Nat.{ℕ, _+_, _-_, _%_, _^_, _<_, _≤_}
+use Prim.Native.Nat.{ℕ, _+_, _%_, _^_, _≤_}
 use mathlib.Core.Path.{_≡_, refl, sym, ap, _∙_}
 use mathlib.Core.Bool.{Bool, true, false, not}
 use mathlib.Core.List.{List, [], _∷_, append-assoc}

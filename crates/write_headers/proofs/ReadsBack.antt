@@ -14,14 +14,14 @@ use Rattle.codes.specs.declared.TType.{TType}
 use Rattle.codes.specs.declared.TType.the-variants as T
 use Rattle.codes.proofs.RoundTrips.{type-written, type-read}
 use Rattle.number.specs.BigEndian.{bytesOf}
-use Rattle.number.proofs.Widths.{written, signed-written, length-bytesOf}
+use Rattle.number.proofs.Widths.{signed-written, length-bytesOf}
 use Rattle.config.specs.declared.configuration.TConfiguration.{TConfiguration}
 use Rattle.read.specs.Headers.{field, fieldAt, list, listAt, asSet, setAt, map, mapAt}
 use Rattle.read.specs.Layouts.{listLayout}
 use Rattle.read.proofs.Headers as headers
 use Rattle.write.proofs.ReadsBack.{stands}
 use Rattle.tree.specs.Sizes.{SizeFits}
-use Rattle.binary.specs.Layouts.{Reads}
+use Rattle.binary.specs.Layouts.{Readable}
 use Rattle.binary.proofs.Reading.{field-reads, stop-reads, list-reads, map-reads}
 use Rattle.write_headers.specs.Outputs.{fieldOutput, mapOutput}
 use Rattle.write_headers.specs.declared.field.FieldId.the-variants as Id
@@ -32,7 +32,7 @@ use Rattle.write_headers.proofs.Outputs.{with-id, stop-alone, both-type
 same-byte : (t : TType) → typeByte (asRead t) ≡ typeByte t
 same-byte t = type-read (typeByte t) (asRead t) (type-written t)
 
-reads-as : (t : TType) → Reads (asRead t)
+reads-as : (t : TType) → Readable (asRead t)
 reads-as t = rw (same-byte t) (type-written t)
 
 module _ (out : List ℕ) (at : ℕ) {new : List ℕ} {next : ℕ} where

@@ -11,7 +11,14 @@ use borrow.Author.Needs.{needs}
 use Rattle.wire.proofs.Answers.{told-as}
 use Rattle.read.specs.Told.{toldField, toldList, toldMap}
 use Rattle.nesting.specs.Structs.{toldDepth}
-use Rattle.binary.proofs.Steps as steps
+use Rattle.wire.specs.Answer.{mapped, judged}
+use Rattle.read.specs.Headers.{list, map}
+use Rattle.tree.specs.Coding.{fields, items, pairs}
+use Rattle.tree.proofs.Bounds as bounds
+use Rattle.tree.proofs.Steps as tree
+use Rattle.binary.specs.Binary.{seenAs, heading, asItems, asPaired, binary}
+use Rattle.binary.proofs.Binary.{binary-reads, noSlack, binary-weighs}
+use Rattle.binary.proofs.Steps.{leaf-answers, goes, stops, judgedAs}
 use Rattle.skip.proofs.Sizes.{list-bits, map-bits}
 use Rattle.tree.proofs.Parts.{part-length}
 use Rattle.tree.proofs.Heads.{struct-is}
@@ -100,21 +107,21 @@ skip-value-claims t = (refused-reads.Asked, refused-reads.Learnt, shape-of-reads
 
 abbrev skip-list-Inv-loop : skip-list-lts.InvT-loop
 skip-list-Inv-loop bytes start depth struct-depth config element-type size len at₀ count₀ i₀ at count i =
-    steps.ListLoop config bytes start depth struct-depth element-type (toZ w32 size) at₀ at count i × (len ≡ natAbs (toZ w32 size))
+    tree.ListLoop binary config bytes start depth struct-depth (asItems (list element-type (toZ w32 size))) at₀ at count i × (len ≡ natAbs (toZ w32 size))
 
 abbrev skip-list-μ-loop : skip-list-lts.MeasureT-loop
 skip-list-μ-loop bytes start depth struct-depth config element-type size len at₀ count₀ i₀ at count i = len - i
 
 abbrev skip-map-Inv-loop : skip-map-lts.InvT-loop
 skip-map-Inv-loop bytes start depth struct-depth config key-type value-type size len at₀ count₀ i₀ at count i =
-    steps.MapLoop config bytes start depth struct-depth key-type value-type (toZ w32 size) at₀ at count i × (len ≡ natAbs (toZ w32 size))
+    tree.MapLoop binary config bytes start depth struct-depth (asPaired (map key-type value-type (toZ w32 size))) at₀ at count i × (len ≡ natAbs (toZ w32 size))
 
 abbrev skip-map-μ-loop : skip-map-lts.MeasureT-loop
 skip-map-μ-loop bytes start depth struct-depth config key-type value-type size len at₀ count₀ i₀ at count i = len - i
 
 abbrev skip-struct-Inv-loop : skip-struct-lts.InvT-loop
 skip-struct-Inv-loop bytes start depth struct-depth config inner at₀ count₀ at count =
-    steps.StructLoop config bytes start depth struct-depth at count × (inner ≡ struct-depth + 1)
+    tree.StructLoop binary config bytes start depth struct-depth tt at count × (inner ≡ struct-depth + 1)
 
 abbrev skip-struct-μ-loop : skip-struct-lts.MeasureT-loop
 skip-struct-μ-loop bytes start depth struct-depth config inner at₀ count₀ at count = length bytes - at
@@ -129,20 +136,20 @@ pub +skip-list+skip-map+skip-struct+skip-value-spec : {M : Type 1} → statement
     (λ c. search needs)
     (λ c κs. search needs)
     (λ c. search needs)
-    (λ c. let same : toZ w32 (ofZ w32 (c .before .before .before .list .given .0 .0 .size)) ≡ c .before .before .before .list .given .0 .0 .size = search needs in rw same (steps.list-start _ _ _ _ _ (λ i. c .before .before .before .before .before .before .shared-slice-known .given i .fits) (c .before .before .before .before .before .before .before .pre .1) (told-as toldList (c .before .before .before .list .given .1) (c .before .before .before .before .before .read-list-begin .ensures)), c .bits32 .ensures ∙ ap (ofZ w32) same ∙ list-bits _ _ _ (told-as toldList (c .before .before .before .list .given .1) (c .before .before .before .before .before .read-list-begin .ensures))))
+    (λ c. let same : toZ w32 (ofZ w32 (c .before .before .before .list .given .0 .0 .size)) ≡ c .before .before .before .list .given .0 .0 .size = search needs in rw same (tree.list-start binary binary-reads _ _ _ _ _ (λ i. c .before .before .before .before .before .before .shared-slice-known .given i .fits) (c .before .before .before .before .before .before .before .pre .1) (ap (mapped asItems) (told-as toldList (c .before .before .before .list .given .1) (c .before .before .before .before .before .read-list-begin .ensures))), c .bits32 .ensures ∙ ap (ofZ w32) same ∙ list-bits _ _ _ (told-as toldList (c .before .before .before .list .given .1) (c .before .before .before .before .before .read-list-begin .ensures))))
     (λ c. omega (arith, c .before .loop .inv .0 .deep))
     (λ c κs. (omega (arith, c .before .before .before .before .before .before .before .before .before .pre .0, c .before .loop .inv .0 .deep), tt))
     (λ c. search needs)
-    (λ c. let v = (rw (c .before .end .given .1) at (c .before .before .before .skip-value .ensures)) in let h = steps.stands-count _ _ _ _ _ _ _ _ v in let r = steps.list-room _ _ _ _ _ (c .before .before .before .before .before .loop .inv .0) in omega (arith, h .1, r .0, v .part .within, c .before .before .before .before .before .before .before .before .before .before .before .before .before .good .0))
+    (λ c. let v = (rw (c .before .end .given .1) at (c .before .before .before .skip-value .ensures)) in let h = bounds.stands-count binary binary-reads noSlack binary-weighs _ _ _ _ _ _ _ _ v in let r = tree.list-room binary binary-reads _ _ _ _ _ noSlack binary-weighs (c .before .before .before .before .before .loop .inv .0) in omega (arith, h .1, r .0, v .part .within, c .before .before .before .before .before .before .before .before .before .before .before .before .before .good .0))
     (λ c. search needs)
-    (λ c. let r = steps.list-room _ _ _ _ _ (c .before .before .before .before .before .loop .inv .0) in let h = steps.cut-small _ _ _ _ _ _ _ _ _ (r .1) (rw (c .before .refusal .given .1) at (c .before .before .before .skip-value .ensures)) in omega (arith, h, r .0, c .before .before .before .before .before .before .before .before .before .before .before .before .before .good .0))
-    (λ c t e. steps.list-cut _ _ _ _ _ t e (c .before .before .before .before .before .loop .inv .0) (rw (c .before .before .before .before .before .loop .inv .1) at (c .before .before .before .before .loop-test .taken)) (rw (c .before .refusal .given .1) at (c .before .before .before .skip-value .ensures)))
+    (λ c. let r = tree.list-room binary binary-reads _ _ _ _ _ noSlack binary-weighs (c .before .before .before .before .before .loop .inv .0) in let h = bounds.cut-small binary binary-reads noSlack binary-weighs _ _ _ _ _ _ _ _ _ (r .1) (rw (c .before .refusal .given .1) at (c .before .before .before .skip-value .ensures)) in omega (arith, h, r .0, c .before .before .before .before .before .before .before .before .before .before .before .before .before .good .0))
+    (λ c t e. tree.list-cut binary binary-reads _ _ _ _ _ t e (c .before .before .before .before .before .loop .inv .0) (rw (c .before .before .before .before .before .loop .inv .1) at (c .before .before .before .before .loop-test .taken)) (rw (c .before .refusal .given .1) at (c .before .before .before .skip-value .ensures)))
     (λ c. omega (arith, c .before .before .before .before .loop-test .taken, c .before .before .before .before .before .before .bits32 .ok))
     (λ c. omega (arith, c .before .before .before .before .loop-test .taken))
-    (λ c. (steps.list-more _ _ _ _ _ (c .before .before .before .before .before .loop .inv .0) (rw (c .before .before .before .before .before .loop .inv .1) at (c .before .before .before .before .loop-test .taken)) (rw (c .before .end .given .1) at (c .before .before .before .skip-value .ensures)), c .before .before .before .before .before .loop .inv .1))
+    (λ c. (tree.list-more binary binary-reads _ _ _ _ _ (c .before .before .before .before .before .loop .inv .0) (rw (c .before .before .before .before .before .loop .inv .1) at (c .before .before .before .before .loop-test .taken)) (rw (c .before .end .given .1) at (c .before .before .before .skip-value .ensures)), c .before .before .before .before .before .loop .inv .1))
     (λ c. search needs)
-    (λ c t e. steps.list-stands _ _ _ _ _ t e (λ i. c .before .before .before .before .before .before .before .before .shared-slice-known .given i .fits) (c .before .loop .inv .0) (rw (c .before .loop .inv .1) at (c .loop-test .left)))
-    (λ c t e. steps.list-refused _ _ _ _ _ t e _ _ (λ z. omega (arith, c .before .before .before .before .before .pre .1)) (told-as toldList (c .before .refusal2 .given .1) (c .before .before .before .read-list-begin .ensures))))
+    (λ c t e. tree.list-stands binary binary-reads _ _ _ _ _ t e (λ i. c .before .before .before .before .before .before .before .before .shared-slice-known .given i .fits) (c .before .loop .inv .0) (rw (c .before .loop .inv .1) at (c .loop-test .left)))
+    (λ c t e. tree.own-refused binary binary-reads _ _ _ _ _ t items _ _ (λ z. omega (arith, c .before .before .before .before .before .pre .1)) e (ap (judgedAs asItems) (told-as toldList (c .before .refusal2 .given .1) (c .before .before .before .read-list-begin .ensures)))))
     (λ t. skip-map-lts.spec (skip-map-claims t) (skip-map-at t) skip-map.Post
     skip-map-Inv-loop
     skip-map-μ-loop
@@ -150,54 +157,54 @@ pub +skip-list+skip-map+skip-struct+skip-value-spec : {M : Type 1} → statement
     (λ c. search needs)
     (λ c κs. search needs)
     (λ c. search needs)
-    (λ c. let same : toZ w32 (ofZ w32 (c .before .before .before .map .given .0 .0 .size)) ≡ c .before .before .before .map .given .0 .0 .size = search needs in rw same (steps.map-start _ _ _ _ _ (λ i. c .before .before .before .before .before .before .shared-slice-known .given i .fits) (c .before .before .before .before .before .before .before .pre .1) (told-as toldMap (c .before .before .before .map .given .1) (c .before .before .before .before .before .read-map-begin .ensures)), c .bits32 .ensures ∙ ap (ofZ w32) same ∙ map-bits _ _ _ (told-as toldMap (c .before .before .before .map .given .1) (c .before .before .before .before .before .read-map-begin .ensures))))
+    (λ c. let same : toZ w32 (ofZ w32 (c .before .before .before .map .given .0 .0 .size)) ≡ c .before .before .before .map .given .0 .0 .size = search needs in rw same (tree.map-start binary binary-reads _ _ _ _ _ (λ i. c .before .before .before .before .before .before .shared-slice-known .given i .fits) (c .before .before .before .before .before .before .before .pre .1) (ap (mapped asPaired) (told-as toldMap (c .before .before .before .map .given .1) (c .before .before .before .before .before .read-map-begin .ensures))), c .bits32 .ensures ∙ ap (ofZ w32) same ∙ map-bits _ _ _ (told-as toldMap (c .before .before .before .map .given .1) (c .before .before .before .before .before .read-map-begin .ensures))))
     (λ c. omega (arith, c .before .loop .inv .0 .deep))
     (λ c κs. (omega (arith, c .before .before .before .before .before .before .before .before .before .pre .0, c .before .loop .inv .0 .deep), tt))
     (λ c. search needs)
     (λ c. omega (arith, c .before .before .before .before .before .loop .inv .0 .deep))
     (λ c κs. (omega (arith, c .before .before .before .before .before .before .before .before .before .before .before .before .before .pre .0, c .before .before .before .before .before .loop .inv .0 .deep), tt))
     (λ c. search needs)
-    (λ c. let k = (rw (c .before .before .before .before .before .mid .given .1) at (c .before .before .before .before .before .before .before .skip-value .ensures)) in let h = steps.stands-count _ _ _ _ _ _ _ _ k in let r = steps.map-room _ _ _ _ _ (c .before .before .before .before .before .before .before .before .before .loop .inv .0) in omega (arith, h .1, r .0, k .part .within, c .before .before .before .before .before .before .before .before .before .before .before .before .before .before .before .before .before .good .0))
-    (λ c. let k = (rw (c .before .before .before .before .before .mid .given .1) at (c .before .before .before .before .before .before .before .skip-value .ensures)) in let v = (rw (c .before .next .given .1) at (c .before .before .before .skip-value2 .ensures)) in let g = steps.stands-count _ _ _ _ _ _ _ _ k in let h = steps.stands-count _ _ _ _ _ _ _ _ v in let r = steps.map-room _ _ _ _ _ (c .before .before .before .before .before .before .before .before .before .loop .inv .0) in omega (arith, g .1, h .1, r .0, v .part .within, c .before .before .before .before .before .before .before .before .before .before .before .before .before .before .before .before .before .good .0))
+    (λ c. let k = (rw (c .before .before .before .before .before .mid .given .1) at (c .before .before .before .before .before .before .before .skip-value .ensures)) in let h = bounds.stands-count binary binary-reads noSlack binary-weighs _ _ _ _ _ _ _ _ k in let r = tree.map-room binary binary-reads _ _ _ _ _ noSlack binary-weighs (c .before .before .before .before .before .before .before .before .before .loop .inv .0) in omega (arith, h .1, r .0, k .part .within, c .before .before .before .before .before .before .before .before .before .before .before .before .before .before .before .before .before .good .0))
+    (λ c. let k = (rw (c .before .before .before .before .before .mid .given .1) at (c .before .before .before .before .before .before .before .skip-value .ensures)) in let v = (rw (c .before .next .given .1) at (c .before .before .before .skip-value2 .ensures)) in let g = bounds.stands-count binary binary-reads noSlack binary-weighs _ _ _ _ _ _ _ _ k in let h = bounds.stands-count binary binary-reads noSlack binary-weighs _ _ _ _ _ _ _ _ v in let r = tree.map-room binary binary-reads _ _ _ _ _ noSlack binary-weighs (c .before .before .before .before .before .before .before .before .before .loop .inv .0) in omega (arith, g .1, h .1, r .0, v .part .within, c .before .before .before .before .before .before .before .before .before .before .before .before .before .before .before .before .before .good .0))
     (λ c. search needs)
-    (λ c. let k = (rw (c .before .before .before .before .before .mid .given .1) at (c .before .before .before .before .before .before .before .skip-value .ensures)) in let h = steps.stands-count _ _ _ _ _ _ _ _ k in let r = steps.map-room _ _ _ _ _ (c .before .before .before .before .before .before .before .before .before .loop .inv .0) in omega (arith, h .1, r .0, k .part .within, c .before .before .before .before .before .before .before .before .before .before .before .before .before .before .before .before .before .good .0))
-    (λ c. let k = (rw (c .before .before .before .before .before .mid .given .1) at (c .before .before .before .before .before .before .before .skip-value .ensures)) in let g = steps.stands-count _ _ _ _ _ _ _ _ k in let h = steps.cut-small _ _ _ _ _ _ _ _ _ (k .part .within) (rw (c .before .late .given .1) at (c .before .before .before .skip-value2 .ensures)) in let r = steps.map-room _ _ _ _ _ (c .before .before .before .before .before .before .before .before .before .loop .inv .0) in omega (arith, g .1, h, r .0, c .before .before .before .before .before .before .before .before .before .before .before .before .before .before .before .before .before .good .0))
-    (λ c t e. steps.map-value-cut _ _ _ _ _ t e (c .before .before .before .before .before .before .before .before .before .loop .inv .0) (rw (c .before .before .before .before .before .before .before .before .before .loop .inv .1) at (c .before .before .before .before .before .before .before .before .loop-test .taken)) (rw (c .before .before .before .before .before .mid .given .1) at (c .before .before .before .before .before .before .before .skip-value .ensures)) (rw (c .before .late .given .1) at (c .before .before .before .skip-value2 .ensures)))
+    (λ c. let k = (rw (c .before .before .before .before .before .mid .given .1) at (c .before .before .before .before .before .before .before .skip-value .ensures)) in let h = bounds.stands-count binary binary-reads noSlack binary-weighs _ _ _ _ _ _ _ _ k in let r = tree.map-room binary binary-reads _ _ _ _ _ noSlack binary-weighs (c .before .before .before .before .before .before .before .before .before .loop .inv .0) in omega (arith, h .1, r .0, k .part .within, c .before .before .before .before .before .before .before .before .before .before .before .before .before .before .before .before .before .good .0))
+    (λ c. let k = (rw (c .before .before .before .before .before .mid .given .1) at (c .before .before .before .before .before .before .before .skip-value .ensures)) in let g = bounds.stands-count binary binary-reads noSlack binary-weighs _ _ _ _ _ _ _ _ k in let h = bounds.cut-small binary binary-reads noSlack binary-weighs _ _ _ _ _ _ _ _ _ (k .part .within) (rw (c .before .late .given .1) at (c .before .before .before .skip-value2 .ensures)) in let r = tree.map-room binary binary-reads _ _ _ _ _ noSlack binary-weighs (c .before .before .before .before .before .before .before .before .before .loop .inv .0) in omega (arith, g .1, h, r .0, c .before .before .before .before .before .before .before .before .before .before .before .before .before .before .before .before .before .good .0))
+    (λ c t e. tree.map-value-cut binary binary-reads _ _ _ _ _ t e (c .before .before .before .before .before .before .before .before .before .loop .inv .0) (rw (c .before .before .before .before .before .before .before .before .before .loop .inv .1) at (c .before .before .before .before .before .before .before .before .loop-test .taken)) (rw (c .before .before .before .before .before .mid .given .1) at (c .before .before .before .before .before .before .before .skip-value .ensures)) (rw (c .before .late .given .1) at (c .before .before .before .skip-value2 .ensures)))
     (λ c. search needs)
-    (λ c. let r = steps.map-room _ _ _ _ _ (c .before .before .before .before .before .loop .inv .0) in let h = steps.cut-small _ _ _ _ _ _ _ _ _ (r .1) (rw (c .before .refusal .given .1) at (c .before .before .before .skip-value .ensures)) in omega (arith, h, r .0, c .before .before .before .before .before .before .before .before .before .before .before .before .before .good .0))
-    (λ c t e. steps.map-key-cut _ _ _ _ _ t e (c .before .before .before .before .before .loop .inv .0) (rw (c .before .before .before .before .before .loop .inv .1) at (c .before .before .before .before .loop-test .taken)) (rw (c .before .refusal .given .1) at (c .before .before .before .skip-value .ensures)))
+    (λ c. let r = tree.map-room binary binary-reads _ _ _ _ _ noSlack binary-weighs (c .before .before .before .before .before .loop .inv .0) in let h = bounds.cut-small binary binary-reads noSlack binary-weighs _ _ _ _ _ _ _ _ _ (r .1) (rw (c .before .refusal .given .1) at (c .before .before .before .skip-value .ensures)) in omega (arith, h, r .0, c .before .before .before .before .before .before .before .before .before .before .before .before .before .good .0))
+    (λ c t e. tree.map-key-cut binary binary-reads _ _ _ _ _ t e (c .before .before .before .before .before .loop .inv .0) (rw (c .before .before .before .before .before .loop .inv .1) at (c .before .before .before .before .loop-test .taken)) (rw (c .before .refusal .given .1) at (c .before .before .before .skip-value .ensures)))
     (λ c. omega (arith, c .before .before .before .before .before .before .before .before .loop-test .taken, c .before .before .before .before .before .before .before .before .before .before .bits32 .ok))
     (λ c. omega (arith, c .before .before .before .before .before .before .before .before .loop-test .taken))
-    (λ c. (steps.map-more _ _ _ _ _ (c .before .before .before .before .before .before .before .before .before .loop .inv .0) (rw (c .before .before .before .before .before .before .before .before .before .loop .inv .1) at (c .before .before .before .before .before .before .before .before .loop-test .taken)) (rw (c .before .before .before .before .before .mid .given .1) at (c .before .before .before .before .before .before .before .skip-value .ensures)) (rw (c .before .next .given .1) at (c .before .before .before .skip-value2 .ensures)), c .before .before .before .before .before .before .before .before .before .loop .inv .1))
+    (λ c. (tree.map-more binary binary-reads _ _ _ _ _ (c .before .before .before .before .before .before .before .before .before .loop .inv .0) (rw (c .before .before .before .before .before .before .before .before .before .loop .inv .1) at (c .before .before .before .before .before .before .before .before .loop-test .taken)) (rw (c .before .before .before .before .before .mid .given .1) at (c .before .before .before .before .before .before .before .skip-value .ensures)) (rw (c .before .next .given .1) at (c .before .before .before .skip-value2 .ensures)), c .before .before .before .before .before .before .before .before .before .loop .inv .1))
     (λ c. search needs)
-    (λ c t e. steps.map-stands _ _ _ _ _ t e (λ i. c .before .before .before .before .before .before .before .before .shared-slice-known .given i .fits) (c .before .loop .inv .0) (rw (c .before .loop .inv .1) at (c .loop-test .left)))
-    (λ c t e. steps.map-refused _ _ _ _ _ t e _ _ (λ z. omega (arith, c .before .before .before .before .before .pre .1)) (told-as toldMap (c .before .refusal2 .given .1) (c .before .before .before .read-map-begin .ensures))))
+    (λ c t e. tree.map-stands binary binary-reads _ _ _ _ _ t e (λ i. c .before .before .before .before .before .before .before .before .shared-slice-known .given i .fits) (c .before .loop .inv .0) (rw (c .before .loop .inv .1) at (c .loop-test .left)))
+    (λ c t e. tree.own-refused binary binary-reads _ _ _ _ _ t pairs _ _ (λ z. omega (arith, c .before .before .before .before .before .pre .1)) e (ap (judgedAs asPaired) (told-as toldMap (c .before .refusal2 .given .1) (c .before .before .before .read-map-begin .ensures)))))
     (λ t. skip-struct-lts.spec (skip-struct-claims t) (skip-struct-at t) skip-struct.Post
     skip-struct-Inv-loop
     skip-struct-μ-loop
     (λ c κs. search needs)
     (λ c. search needs)
-    (λ c. (steps.struct-start _ _ _ _ _ (c .before .before .before .before .before .pre .1) (told-as toldDepth (c .before .inner .given .1) (c .before .before .before .read-struct-begin .ensures)), struct-is (c .before .before .before .before .before .args .config) _ _ _ (told-as toldDepth (c .before .inner .given .1) (c .before .before .before .read-struct-begin .ensures)) .deeper))
+    (λ c. (tree.struct-start binary binary-reads _ _ _ _ _ (c .before .before .before .before .before .pre .1) (told-as toldDepth (c .before .inner .given .1) (c .before .before .before .read-struct-begin .ensures)), struct-is (c .before .before .before .before .before .args .config) _ _ _ (told-as toldDepth (c .before .inner .given .1) (c .before .before .before .read-struct-begin .ensures)) .deeper))
     (λ c κs. search needs)
     (λ c. search needs)
     (λ c κs. search needs)
-    (λ c t e. steps.struct-stands _ _ _ _ _ t e _ _ (c .before .before .before .before .before .before .loop .inv .0) (sym (c .before .is-stop .ensures) ∙ c .if1 .taken) (told-as toldField (c .before .before .before .field .given .1) (c .before .before .before .before .before .read-field-begin .ensures)))
+    (λ c t e. tree.struct-stands binary binary-reads _ _ _ _ _ t e _ _ (c .before .before .before .before .before .before .loop .inv .0) (stops _ _ (sym (c .before .is-stop .ensures) ∙ c .if1 .taken) (told-as toldField (c .before .before .before .field .given .1) (c .before .before .before .before .before .read-field-begin .ensures))))
     (λ c. omega (arith, c .before .before .before .before .before .before .loop .inv .0 .deep))
     (λ c κs. (omega (arith, c .before .before .before .before .before .before .before .before .before .before .before .before .pre .0, c .before .before .before .before .before .before .loop .inv .0 .deep), tt))
     (λ c. search needs)
-    (λ c. let v = (rw (c .before .next .given .1, c .before .before .before .before .before .before .before .before .before .before .loop .inv .1) at (c .before .before .before .skip-value .ensures)) in let h = steps.stands-count _ _ _ _ _ _ _ _ v in let i = field-is _ _ (sym (c .before .before .before .before .before .is-stop .ensures) ∙ c .before .before .before .before .if1 .left) (told-as toldField (c .before .before .before .before .before .before .before .field .given .1) (c .before .before .before .before .before .before .before .before .before .read-field-begin .ensures)) in let r = steps.struct-room _ _ _ _ _ _ _ (c .before .before .before .before .before .before .before .before .before .before .loop .inv .0) in omega (arith, h .1, i .part .from, r .0, v .part .within, c .before .before .before .before .before .before .before .before .before .before .before .before .before .before .before .before .good .0))
+    (λ c. let v = (rw (c .before .next .given .1, c .before .before .before .before .before .before .before .before .before .before .loop .inv .1) at (c .before .before .before .skip-value .ensures)) in let h = bounds.stands-count binary binary-reads noSlack binary-weighs _ _ _ _ _ _ _ _ v in let i = field-is _ _ (sym (c .before .before .before .before .before .is-stop .ensures) ∙ c .before .before .before .before .if1 .left) (told-as toldField (c .before .before .before .before .before .before .before .field .given .1) (c .before .before .before .before .before .before .before .before .before .read-field-begin .ensures)) in let r = tree.struct-room binary binary-reads _ _ _ _ _ noSlack binary-weighs (c .before .before .before .before .before .before .before .before .before .before .loop .inv .0) in omega (arith, h .1, i .part .from, r .0, v .part .within, c .before .before .before .before .before .before .before .before .before .before .before .before .before .before .before .before .good .0))
     (λ c. let v = (rw (c .before .next .given .1, c .before .before .before .before .before .before .before .before .before .before .loop .inv .1) at (c .before .before .before .skip-value .ensures)) in let i = field-is _ _ (sym (c .before .before .before .before .before .is-stop .ensures) ∙ c .before .before .before .before .if1 .left) (told-as toldField (c .before .before .before .before .before .before .before .field .given .1) (c .before .before .before .before .before .before .before .before .before .read-field-begin .ensures)) in let l = part-length (i .part) in omega (arith, l, i .two, v .part .from, v .part .within))
-    (λ c. (steps.struct-more _ _ _ _ _ _ _ (c .before .before .before .before .before .before .before .before .before .before .loop .inv .0) (sym (c .before .before .before .before .before .is-stop .ensures) ∙ c .before .before .before .before .if1 .left) (told-as toldField (c .before .before .before .before .before .before .before .field .given .1) (c .before .before .before .before .before .before .before .before .before .read-field-begin .ensures)) (rw (c .before .next .given .1, c .before .before .before .before .before .before .before .before .before .before .loop .inv .1) at (c .before .before .before .skip-value .ensures)), c .before .before .before .before .before .before .before .before .before .before .loop .inv .1))
+    (λ c. (tree.struct-more binary binary-reads _ _ _ _ _ _ _ (c .before .before .before .before .before .before .before .before .before .before .loop .inv .0) (goes _ _ (sym (c .before .before .before .before .before .is-stop .ensures) ∙ c .before .before .before .before .if1 .left) (told-as toldField (c .before .before .before .before .before .before .before .field .given .1) (c .before .before .before .before .before .before .before .before .before .read-field-begin .ensures))) (rw (c .before .next .given .1, c .before .before .before .before .before .before .before .before .before .before .loop .inv .1) at (c .before .before .before .skip-value .ensures)), c .before .before .before .before .before .before .before .before .before .before .loop .inv .1))
     (λ c. search needs)
-    (λ c. let i = field-is _ _ (sym (c .before .before .before .before .before .is-stop .ensures) ∙ c .before .before .before .before .if1 .left) (told-as toldField (c .before .before .before .before .before .before .before .field .given .1) (c .before .before .before .before .before .before .before .before .before .read-field-begin .ensures)) in let h = steps.cut-small _ _ _ _ _ _ _ _ _ (i .part .within) (rw (c .before .refusal .given .1, c .before .before .before .before .before .before .before .before .before .before .loop .inv .1) at (c .before .before .before .skip-value .ensures)) in let r = steps.struct-room _ _ _ _ _ _ _ (c .before .before .before .before .before .before .before .before .before .before .loop .inv .0) in omega (arith, h, i .part .from, r .0, c .before .before .before .before .before .before .before .before .before .before .before .before .before .before .before .before .good .0))
-    (λ c t e. steps.struct-value-cut _ _ _ _ _ t e _ _ (c .before .before .before .before .before .before .before .before .before .before .loop .inv .0) (sym (c .before .before .before .before .before .is-stop .ensures) ∙ c .before .before .before .before .if1 .left) (told-as toldField (c .before .before .before .before .before .before .before .field .given .1) (c .before .before .before .before .before .before .before .before .before .read-field-begin .ensures)) (rw (c .before .refusal .given .1, c .before .before .before .before .before .before .before .before .before .before .loop .inv .1) at (c .before .before .before .skip-value .ensures)))
+    (λ c. let i = field-is _ _ (sym (c .before .before .before .before .before .is-stop .ensures) ∙ c .before .before .before .before .if1 .left) (told-as toldField (c .before .before .before .before .before .before .before .field .given .1) (c .before .before .before .before .before .before .before .before .before .read-field-begin .ensures)) in let h = bounds.cut-small binary binary-reads noSlack binary-weighs _ _ _ _ _ _ _ _ _ (i .part .within) (rw (c .before .refusal .given .1, c .before .before .before .before .before .before .before .before .before .before .loop .inv .1) at (c .before .before .before .skip-value .ensures)) in let r = tree.struct-room binary binary-reads _ _ _ _ _ noSlack binary-weighs (c .before .before .before .before .before .before .before .before .before .before .loop .inv .0) in omega (arith, h, i .part .from, r .0, c .before .before .before .before .before .before .before .before .before .before .before .before .before .before .before .before .good .0))
+    (λ c t e. tree.struct-value-cut binary binary-reads _ _ _ _ _ t e _ _ (c .before .before .before .before .before .before .before .before .before .before .loop .inv .0) (goes _ _ (sym (c .before .before .before .before .before .is-stop .ensures) ∙ c .before .before .before .before .if1 .left) (told-as toldField (c .before .before .before .before .before .before .before .field .given .1) (c .before .before .before .before .before .before .before .before .before .read-field-begin .ensures))) (rw (c .before .refusal .given .1, c .before .before .before .before .before .before .before .before .before .before .loop .inv .1) at (c .before .before .before .skip-value .ensures)))
     (λ c. search needs)
-    (λ c t e. steps.struct-head-cut _ _ _ _ _ t e _ _ _ _ (c .before .before .before .before .loop .inv .0) (told-as toldField (c .before .refusal2 .given .1) (c .before .before .before .read-field-begin .ensures)))
+    (λ c t e. tree.struct-head-cut binary binary-reads _ _ _ _ _ t e _ _ _ _ (c .before .before .before .before .loop .inv .0) (ap (mapped heading) (told-as toldField (c .before .refusal2 .given .1) (c .before .before .before .read-field-begin .ensures))))
     (λ c. search needs)
-    (λ c t e. steps.struct-refused _ _ _ _ _ t e _ _ (λ z. omega (arith, c .before .before .before .before .before .pre .1)) (told-as toldDepth (c .before .refusal3 .given .1) (c .before .before .before .read-struct-begin .ensures))))
+    (λ c t e. tree.own-refused binary binary-reads _ _ _ _ _ t fields _ _ (λ z. omega (arith, c .before .before .before .before .before .pre .1)) e (ap judged (told-as toldDepth (c .before .refusal3 .given .1) (c .before .before .before .read-struct-begin .ensures)))))
     (λ t. skip-value-lts.spec (skip-value-claims t) (skip-value-at t) skip-value.Post
     (λ c κs. search needs)
-    (λ c. let a = c .before .before .before .args in steps.deep-answers (a .config) (a .bytes .now) (a .cursor .at) (a .depth) (a .struct-depth) (a .field-type) (c .before .if1 .taken) (c .refused .ensures))
+    (λ c. let a = c .before .before .before .args in tree.deep-answers binary binary-reads (a .config) (a .bytes .now) (a .cursor .at) (a .depth) (a .struct-depth) (a .field-type) (c .before .if1 .taken) (c .refused .ensures))
     (λ c κs. search needs)
     (λ c. search needs)
     (λ c κs. search needs)
@@ -211,9 +218,9 @@ pub +skip-list+skip-map+skip-struct+skip-value-spec : {M : Type 1} → statement
     (λ c κs. (omega (arith, c .before .before .before .before .before .pre .0), omega (arith, c .before .before .before .if1 .left)))
     (λ c. search needs)
     (λ c κs. search needs)
-    (λ c. let a = c .before .before .before .before .before .before .before .args in steps.leaf-answers (a .config) (a .bytes .now) (a .cursor .at) (a .depth) (a .struct-depth) (λ i. c .before .before .before .before .before .before .shared-slice-known .given i .fits) (a .field-type) (Sh.Fixed (c .before .before .width .given .0 .0)) (c .before .before .before .before .before .if1 .left) (sym (c .before .before .before .before .shape-of .ensures) ∙ c .before .before .width .given .1) refl (c .skip-fixed .ensures))
-    (λ c. let a = c .before .before .before .before .before .before .args in steps.leaf-answers (a .config) (a .bytes .now) (a .cursor .at) (a .depth) (a .struct-depth) (λ i. c .before .before .before .before .before .shared-slice-known .given i .fits) (a .field-type) Sh.Text (c .before .before .before .before .if1 .left) (sym (c .before .before .before .shape-of .ensures) ∙ c .before .enum-told .given .1) refl (c .skip-text .ensures))
-    (λ c. c .skip-struct .ensures (c .before .before .before .before .before .before .args .field-type) (sym (c .before .before .before .shape-of .ensures) ∙ c .before .enum-told2 .given .1))
-    (λ c. c .skip-list .ensures (c .before .before .before .before .before .before .args .field-type) (sym (c .before .before .before .shape-of .ensures) ∙ c .before .enum-told3 .given .1))
-    (λ c. c .skip-map .ensures (c .before .before .before .before .before .before .args .field-type) (sym (c .before .before .before .shape-of .ensures) ∙ c .before .enum-told4 .given .1))
-    (λ c. let a = c .before .before .before .before .before .before .args in steps.leaf-answers (a .config) (a .bytes .now) (a .cursor .at) (a .depth) (a .struct-depth) (λ i. c .before .before .before .before .before .shared-slice-known .given i .fits) (a .field-type) Sh.Unfit (c .before .before .before .before .if1 .left) (sym (c .before .before .before .shape-of .ensures) ∙ c .before .enum-told5 .given .1) refl (c .refused2 .ensures)))
+    (λ c. let a = c .before .before .before .before .before .before .before .args in leaf-answers (a .config) (a .bytes .now) (a .cursor .at) (a .depth) (a .struct-depth) (λ i. c .before .before .before .before .before .before .shared-slice-known .given i .fits) (a .field-type) (Sh.Fixed (c .before .before .width .given .0 .0)) (c .before .before .before .before .before .if1 .left) (sym (c .before .before .before .before .shape-of .ensures) ∙ c .before .before .width .given .1) refl (c .skip-fixed .ensures))
+    (λ c. let a = c .before .before .before .before .before .before .args in leaf-answers (a .config) (a .bytes .now) (a .cursor .at) (a .depth) (a .struct-depth) (λ i. c .before .before .before .before .before .shared-slice-known .given i .fits) (a .field-type) Sh.Text (c .before .before .before .before .if1 .left) (sym (c .before .before .before .shape-of .ensures) ∙ c .before .enum-told .given .1) refl (c .skip-text .ensures))
+    (λ c. c .skip-struct .ensures (c .before .before .before .before .before .before .args .field-type) (ap (λ k. seenAs k .view) (sym (c .before .before .before .shape-of .ensures) ∙ c .before .enum-told2 .given .1)))
+    (λ c. c .skip-list .ensures (c .before .before .before .before .before .before .args .field-type) (ap (λ k. seenAs k .view) (sym (c .before .before .before .shape-of .ensures) ∙ c .before .enum-told3 .given .1)))
+    (λ c. c .skip-map .ensures (c .before .before .before .before .before .before .args .field-type) (ap (λ k. seenAs k .view) (sym (c .before .before .before .shape-of .ensures) ∙ c .before .enum-told4 .given .1)))
+    (λ c. let a = c .before .before .before .before .before .before .args in leaf-answers (a .config) (a .bytes .now) (a .cursor .at) (a .depth) (a .struct-depth) (λ i. c .before .before .before .before .before .shared-slice-known .given i .fits) (a .field-type) Sh.Unfit (c .before .before .before .before .if1 .left) (sym (c .before .before .before .shape-of .ensures) ∙ c .before .enum-told5 .given .1) refl (c .refused2 .ensures)))

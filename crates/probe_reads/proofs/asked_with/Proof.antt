@@ -1,0 +1,12 @@
+-- Assumes nothing.
+use borrow.Author.Needs.{needs}
+use Rattle.probe_reads.proofs.asked_with.Statement.{statement}
+use Rattle.probe_reads.proofs.asked_with.Tie as tie
+
+pub asked-with-spec : {M : Type 1} → statement M
+asked-with-spec =
+    tie.close
+    (tie.spec
+    (λ c κs. search needs)
+    (λ c κs. search needs)
+    (λ c. rw (c .before .kind .ensures, c .limits .ensures)))

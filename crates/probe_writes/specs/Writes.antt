@@ -1,0 +1,152 @@
+-- What each write sets the record to, and what it leaves in the buffer.
+use Prim.Native.Nat.{ℕ, _/_, _%_}
+use mathlib.Core.Path.{_≡_}
+use mathlib.Core.Bool.{not, cond}
+use mathlib.Core.List.{List, [], _∷_}
+use lib.Dec.{eqb}
+use lib.ListN.{length}
+use lib.IntN.{ℤ}
+use lib.Ieee.{binary64, ofBits, toBits}
+use mir.Syntax.{w8, w16, w32, w64}
+use mir.Val.{toZ, ofZ}
+use Rattle.wire.specs.Answer.{Answer, judged, stayAt}
+use Rattle.codes.specs.Codes.{typeByte, messageOf}
+use Rattle.wire.specs.Writes.{putAt, writeAt, left}
+use Rattle.codes.specs.declared.TType.{TType}
+use Rattle.codes.specs.declared.TType.the-variants as T
+use Rattle.codes.specs.declared.Typed.{Typed}
+use Rattle.codes.specs.declared.Typed.the-variants as Type-of
+use Rattle.codes.specs.declared.Messaged.{Messaged}
+use Rattle.codes.specs.declared.Messaged.the-variants as Message-of
+use Rattle.number.specs.BigEndian.{bytesOf}
+use Rattle.text.specs.Texts.{sizedLayout}
+use Rattle.nesting.specs.Structs.{structBeginAt, structEndAt}
+use Rattle.read.specs.Layouts.{listLayout}
+use Rattle.message.specs.Layouts.{messageLayout}
+use Rattle.write.specs.Outputs.{boolByte, bytesOutput, namedOutput}
+use Rattle.write_headers.specs.Outputs.{fieldOutput, mapOutput}
+use Rattle.write_headers.specs.declared.field.FieldId.{FieldId}
+use Rattle.write_headers.specs.declared.field.FieldId.the-variants as Id
+use Rattle.write_headers.specs.declared.container.MapType.{MapType}
+use Rattle.write_headers.specs.declared.container.MapType.the-variants as Of-map
+use Rattle.framed.specs.Frames.{frameOutput}
+use Rattle.probe_rows.specs.declared.Row.{Row}
+use Rattle.probe_rows.specs.declared.Stepped.{Stepped}
+use Rattle.probe_rows.specs.declared.Stepped.the-variants as To
+use Rattle.probe_writes.specs.declared.Writing.{Writing}
+use Rattle.probe_numbers.specs.declared.Put.{Put}
+use Rattle.probe_numbers.specs.declared.Put.the-variants as U
+use Rattle.probe_numbers.specs.declared.Headed.{Headed}
+use Rattle.probe_numbers.specs.declared.Headed.the-variants as H
+use Rattle.probe_numbers.specs.declared.Still.{Still}
+use Rattle.probe_numbers.specs.declared.Still.the-variants as Q
+use Rattle.probe_numbers.specs.declared.WriteStep.{WriteStep}
+use Rattle.probe_numbers.specs.declared.WriteStep.the-variants as Write
+use Rattle.probe_numbers.specs.Numbers.{kindOf, limitOf}
+use Rattle.probe_rows.specs.Rows.{rowBy, noneRow, numberRow}
+
+abbrev pub writingOf : ℕ → ℕ → ℕ → ℕ → ℕ → ℕ → ℕ → ℕ → Writing
+writingOf place strict kind other absent number sd structs =
+    record { place = place; strict = not (eqb strict 0); kind = kind; other = other; absent = absent; number = number; «struct_depth» = sd; structs = limitOf structs }
+
+-- the signed number of the low bits at a width
+abbrev pub low8 : ℕ → ℤ
+low8 n = toZ w8 (n % 256)
+
+abbrev pub low16 : ℕ → ℤ
+low16 n = toZ w16 (n % 65536)
+
+abbrev pub low32 : ℕ → ℤ
+low32 n = toZ w32 (n % 4294967296)
+
+-- a write of a number, or of a text, into a buffer at a place
+abbrev pub putWrite : Put → ℕ → List ℕ → List ℕ → ℕ → Answer (List ℕ)
+putWrite U.Stop n text out at = putAt (typeByte T.Stop ∷ []) out at
+putWrite U.Byte n text out at = putAt (n % 256 ∷ []) out at
+putWrite U.Bool n text out at = putAt (boolByte (not (eqb n 0)) ∷ []) out at
+putWrite U.I8 n text out at = putAt (bytesOf 1 (ofZ w8 (low8 n))) out at
+putWrite U.I16 n text out at = putAt (bytesOf 2 (ofZ w16 (low16 n))) out at
+putWrite U.I32 n text out at = putAt (bytesOf 4 (ofZ w32 (low32 n))) out at
+putWrite U.I64 n text out at = putAt (bytesOf 8 (ofZ w64 (toZ w64 n))) out at
+putWrite U.Double n text out at = putAt (bytesOf 8 (toBits binary64 (ofBits binary64 n))) out at
+putWrite U.Bytes n text out at = writeAt (bytesOutput text at) out at
+putWrite U.String n text out at = writeAt (namedOutput text (sizedLayout text) at) out at
+putWrite U.Frame n text out at = writeAt (frameOutput text at) out at
+
+-- bit 0 set: missing
+abbrev pub fieldIdOf : ℕ → ℕ → FieldId
+fieldIdOf absent n = cond (eqb (absent % 2) 1) Id.Absent (Id.Of (low16 n))
+
+abbrev pub mapTypeOf : ℕ → TType → MapType
+mapTypeOf absent t = cond (eqb (absent % 2) 1) Of-map.Absent (Of-map.Of t)
+
+abbrev pub headedWrite : Headed → TType → Writing → List ℕ → ℕ → Answer (List ℕ)
+headedWrite H.Field t c out at = writeAt (fieldOutput t (fieldIdOf (c .absent) (c .number)) at) out at
+headedWrite H.List t c out at = putAt (listLayout t (ofZ w32 (low32 (c .number)))) out at
+headedWrite H.Set t c out at = putAt (listLayout t (ofZ w32 (low32 (c .number)))) out at
+
+-- a map: bit 0 for the key's type, bit 1 for the value's
+abbrev pub mapWrite : TType → TType → Writing → List ℕ → ℕ → Answer (List ℕ)
+mapWrite k v c out at = writeAt (mapOutput (mapTypeOf (c .absent) k) (mapTypeOf (c .absent / 2) v) (low32 (c .number)) at) out at
+
+abbrev pub stillRow : Still → Writing → List ℕ → ℕ → Row
+stillRow Q.MessageEnd c out at = rowBy noneRow (stayAt out at)
+stillRow Q.StructBegin c out at = rowBy numberRow (structBeginAt (c .structs) (c .«struct_depth») out at)
+stillRow Q.StructEnd c out at = rowBy numberRow (structEndAt (c .«struct_depth») out at)
+stillRow Q.FieldEnd c out at = rowBy noneRow (stayAt out at)
+stillRow Q.ListEnd c out at = rowBy noneRow (stayAt out at)
+stillRow Q.SetEnd c out at = rowBy noneRow (stayAt out at)
+stillRow Q.MapEnd c out at = rowBy noneRow (stayAt out at)
+
+-- what a step does: a write, a row with the buffer as it was, or nothing as there is no such step or type
+pub data Does : Type 0 where
+  puts : Answer (List ℕ) → Does
+  stays : Row → Does
+  nothing : Does
+
+abbrev pub comesTo : Does → Stepped
+comesTo (puts w) = To.Set (rowBy noneRow (judged w))
+comesTo (stays w) = To.Set w
+comesTo nothing = To.Unknown
+
+abbrev pub buffer : Does → List ℕ → List ℕ
+buffer (puts w) old = left w old
+buffer (stays w) old = old
+buffer nothing old = old
+
+pub record WriteSays (d : Does) (x : Stepped) (new old : List ℕ) : Type 0 where
+  pub came : x ≡ comesTo d
+  pub holds : new ≡ buffer d old
+
+-- a type index, or a message type's byte, must be known
+abbrev pub ifType : Typed → (TType → Does) → Does
+ifType (Type-of.Known t) does = does t
+ifType Type-of.Unknown does = nothing
+
+abbrev pub headedDoes : Headed → Writing → List ℕ → ℕ → Does
+headedDoes h c out at = ifType (kindOf (c .kind)) λ t. puts (headedWrite h t c out at)
+
+abbrev pub mapDoes : Writing → List ℕ → ℕ → Does
+mapDoes c out at =
+    ifType (kindOf (c .kind)) λ k.
+    ifType (kindOf (c .other)) λ v.
+    puts (mapWrite k v c out at)
+
+abbrev pub messageBy : Messaged → Writing → List ℕ → List ℕ → ℕ → Does
+messageBy (Message-of.Known t) c name out at = puts (writeAt (namedOutput name (messageLayout (c .strict) name t (ofZ w32 (low32 (c .number)))) at) out at)
+messageBy Message-of.Unknown c name out at = nothing
+
+abbrev pub messageDoes : Writing → List ℕ → List ℕ → ℕ → Does
+messageDoes c name out at = messageBy (messageOf (c .kind)) c name out at
+
+abbrev pub uuidDoes : List ℕ → List ℕ → ℕ → Does
+uuidDoes text out at = cond (eqb (length text) 16) (puts (putAt text out at)) nothing
+
+abbrev pub doesOf : WriteStep → Writing → List ℕ → List ℕ → Does
+doesOf (Write.Put p) c text out = puts (putWrite p (c .number) text out (c .place))
+doesOf (Write.Headed h) c text out = headedDoes h c out (c .place)
+doesOf Write.Map c text out = mapDoes c out (c .place)
+doesOf Write.Message c text out = messageDoes c text out (c .place)
+doesOf Write.Uuid c text out = uuidDoes text out (c .place)
+doesOf (Write.Still q) c text out = stays (stillRow q c out (c .place))
+doesOf Write.Unknown c text out = nothing
