@@ -47,7 +47,6 @@ pub roomier-refl : (c : TConfiguration) → Roomier c c
 roomier-refl c =
     record {
       message = raised-refl (c .«max_message_size»);
-      frame = raised-refl (c .«max_frame_size»);
       depth = raised-refl (c .«max_recursion_depth»);
       container = raised-refl (c .«max_container_size»);
       string = raised-refl (c .«max_string_size»);

@@ -6,28 +6,20 @@ use mathlib.Core.List.{List}
 use native.Mathlib.Omega.{arith}
 use lib.ListN.{length}
 use Rattle.wire.specs.Answer.{gives}
-use Rattle.wire.specs.Writes.{writeAt}
 use Rattle.config.specs.Limits.{above}
 use Rattle.config.specs.declared.limit.Limit.{Limit}
-use Rattle.text.specs.Texts.{bytesIn}
-use Rattle.text.specs.declared.Span.{Span}
 use Rattle.text.proofs.Layouts.{length-sized}
 use Rattle.text.specs.declared.Body.the-variants as Body-of
 use Rattle.tree.proofs.Parts.{part-length}
 use Rattle.wire.proofs.Writes.{put-down}
+use Rattle.write.specs.Found.{Finds}
 use Rattle.write.proofs.Outputs.{short, is-short}
 use Rattle.write.proofs.ReadsBack.{stands, sized-found}
-use Rattle.framed.specs.Frames.{frame, frameAt, frameOutput}
+use Rattle.framed.specs.Frames.{frame, frameAt, frameOutput, frameWrite}
 use Rattle.framed.proofs.Frames.{a-frame, full}
 
--- a frame that was read, and that its payload is the one that was written
-pub record Framed (limit : Limit) (s : List ℕ) (at : ℕ) (payload : List ℕ) (next : ℕ) : Type 0 where
-  pub place : Span
-  pub gave : gives (frame place) next ≡ frameAt limit s at
-  pub bytes : bytesIn s place ≡ payload
-
 pub frame-back : (limit : Limit) (payload out : List ℕ) (at : ℕ) {new : List ℕ} {next : ℕ} → 0 < length payload
-    → above (length payload) limit ≡ false → gives new next ≡ writeAt (frameOutput payload at) out at → Framed limit new at payload next
+    → above (length payload) limit ≡ false → gives new next ≡ frameWrite payload out at → Finds frame new payload (frameAt limit new at) next
 frame-back limit payload out at some below e =
     let f = full payload at (λ z. omega arith) in
     let h = is-short payload at (put-down (frameOutput payload at) out at e .gave ∙ sym f) in

@@ -7,8 +7,8 @@ use wire::cursor::Cursor;
 use wire::cursor::Moved;
 use wire::refusal::Refusal;
 ghost use mathlib.Core.Path.{_≡_};
-ghost use Rattle.wire.specs.Writes.{Wrote, writeAt};
-ghost use Rattle.framed.specs.Frames.{frameAt, payloadIn, frameOutput};
+ghost use Rattle.wire.specs.Writes.{Wrote};
+ghost use Rattle.framed.specs.Frames.{frameAt, payloadIn, frameWrite};
 ghost use Rattle.framed.specs.Told.{toldFrame};
 
 // A frame by the place of its payload, with the cursor after it, or no more bytes.
@@ -44,7 +44,7 @@ pub fn payload_part(bytes: &[u8], cursor: Cursor, config: TConfiguration) -> &[u
 
 // An empty payload writes nothing. The frame limit is the reader's.
 pub fn write_frame(out: &mut [u8], cursor: Cursor, payload: &[u8]) -> Moved
-    ensures { λ r. ⌜ Wrote r (now (out .exit)) (now (out .entry)) (writeAt (frameOutput (now (payload .entry)) (cursor .at)) (now (out .entry)) (cursor .at)) ⌝ }
+    ensures { λ r. ⌜ Wrote r (now (out .exit)) (now (out .entry)) (frameWrite (now (payload .entry)) (now (out .entry)) (cursor .at)) ⌝ }
 {
     if payload.len() == 0 {
         return cursor.room(out.len(), 0);

@@ -2,34 +2,30 @@
 use Prim.Native.Nat.{ℕ, _/_, _%_}
 use mathlib.Core.Path.{_≡_}
 use mathlib.Core.Bool.{not, cond}
-use mathlib.Core.List.{List, [], _∷_}
+use mathlib.Core.List.{List}
 use lib.Dec.{eqb}
 use lib.ListN.{length}
 use lib.IntN.{ℤ}
-use lib.Ieee.{binary64, ofBits, toBits}
+use lib.Ieee.{binary64, ofBits}
 use mir.Syntax.{w8, w16, w32, w64}
-use mir.Val.{toZ, ofZ}
+use mir.Val.{toZ}
 use Rattle.wire.specs.Answer.{Answer, judged, stayAt}
-use Rattle.codes.specs.Codes.{typeByte, messageOf}
-use Rattle.wire.specs.Writes.{putAt, writeAt, left}
+use Rattle.codes.specs.Codes.{messageOf}
+use Rattle.wire.specs.Writes.{putAt, left}
 use Rattle.codes.specs.declared.TType.{TType}
-use Rattle.codes.specs.declared.TType.the-variants as T
 use Rattle.codes.specs.declared.Typed.{Typed}
 use Rattle.codes.specs.declared.Typed.the-variants as Type-of
 use Rattle.codes.specs.declared.Messaged.{Messaged}
 use Rattle.codes.specs.declared.Messaged.the-variants as Message-of
-use Rattle.number.specs.BigEndian.{bytesOf}
-use Rattle.text.specs.Texts.{sizedLayout}
 use Rattle.nesting.specs.Structs.{structBeginAt, structEndAt}
-use Rattle.read.specs.Layouts.{listLayout}
-use Rattle.message.specs.Layouts.{messageLayout}
-use Rattle.write.specs.Outputs.{boolByte, bytesOutput, namedOutput}
-use Rattle.write_headers.specs.Outputs.{fieldOutput, mapOutput}
+use Rattle.write.specs.Outputs.{byteWrite, boolWrite, i8Write, i16Write, i32Write, i64Write, doubleWrite, uuidWrite, bytesWrite, stringWrite}
+use Rattle.write_headers.specs.Outputs.{fieldWrite, stopWrite, listWrite, mapWrite}
+use Rattle.write_message.specs.Outputs.{messageWrite}
 use Rattle.write_headers.specs.declared.field.FieldId.{FieldId}
 use Rattle.write_headers.specs.declared.field.FieldId.the-variants as Id
 use Rattle.write_headers.specs.declared.container.MapType.{MapType}
 use Rattle.write_headers.specs.declared.container.MapType.the-variants as Of-map
-use Rattle.framed.specs.Frames.{frameOutput}
+use Rattle.framed.specs.Frames.{frameWrite}
 use Rattle.probe_rows.specs.declared.Row.{Row}
 use Rattle.probe_rows.specs.declared.Stepped.{Stepped}
 use Rattle.probe_rows.specs.declared.Stepped.the-variants as To
@@ -61,17 +57,17 @@ low32 n = toZ w32 (n % 4294967296)
 
 -- a write of a number, or of a text, into a buffer at a place
 abbrev pub putWrite : Put → ℕ → List ℕ → List ℕ → ℕ → Answer (List ℕ)
-putWrite U.Stop n text out at = putAt (typeByte T.Stop ∷ []) out at
-putWrite U.Byte n text out at = putAt (n % 256 ∷ []) out at
-putWrite U.Bool n text out at = putAt (boolByte (not (eqb n 0)) ∷ []) out at
-putWrite U.I8 n text out at = putAt (bytesOf 1 (ofZ w8 (low8 n))) out at
-putWrite U.I16 n text out at = putAt (bytesOf 2 (ofZ w16 (low16 n))) out at
-putWrite U.I32 n text out at = putAt (bytesOf 4 (ofZ w32 (low32 n))) out at
-putWrite U.I64 n text out at = putAt (bytesOf 8 (ofZ w64 (toZ w64 n))) out at
-putWrite U.Double n text out at = putAt (bytesOf 8 (toBits binary64 (ofBits binary64 n))) out at
-putWrite U.Bytes n text out at = writeAt (bytesOutput text at) out at
-putWrite U.String n text out at = writeAt (namedOutput text (sizedLayout text) at) out at
-putWrite U.Frame n text out at = writeAt (frameOutput text at) out at
+putWrite U.Stop n text out at = stopWrite out at
+putWrite U.Byte n text out at = byteWrite (n % 256) out at
+putWrite U.Bool n text out at = boolWrite (not (eqb n 0)) out at
+putWrite U.I8 n text out at = i8Write (low8 n) out at
+putWrite U.I16 n text out at = i16Write (low16 n) out at
+putWrite U.I32 n text out at = i32Write (low32 n) out at
+putWrite U.I64 n text out at = i64Write (toZ w64 n) out at
+putWrite U.Double n text out at = doubleWrite (ofBits binary64 n) out at
+putWrite U.Bytes n text out at = bytesWrite text out at
+putWrite U.String n text out at = stringWrite text out at
+putWrite U.Frame n text out at = frameWrite text out at
 
 -- bit 0 set: missing
 abbrev pub fieldIdOf : ℕ → ℕ → FieldId
@@ -81,13 +77,13 @@ abbrev pub mapTypeOf : ℕ → TType → MapType
 mapTypeOf absent t = cond (eqb (absent % 2) 1) Of-map.Absent (Of-map.Of t)
 
 abbrev pub headedWrite : Headed → TType → Writing → List ℕ → ℕ → Answer (List ℕ)
-headedWrite H.Field t c out at = writeAt (fieldOutput t (fieldIdOf (c .absent) (c .number)) at) out at
-headedWrite H.List t c out at = putAt (listLayout t (ofZ w32 (low32 (c .number)))) out at
-headedWrite H.Set t c out at = putAt (listLayout t (ofZ w32 (low32 (c .number)))) out at
+headedWrite H.Field t c out at = fieldWrite t (fieldIdOf (c .absent) (c .number)) out at
+headedWrite H.List t c out at = listWrite t (low32 (c .number)) out at
+headedWrite H.Set t c out at = listWrite t (low32 (c .number)) out at
 
 -- a map: bit 0 for the key's type, bit 1 for the value's
-abbrev pub mapWrite : TType → TType → Writing → List ℕ → ℕ → Answer (List ℕ)
-mapWrite k v c out at = writeAt (mapOutput (mapTypeOf (c .absent) k) (mapTypeOf (c .absent / 2) v) (low32 (c .number)) at) out at
+abbrev pub mapAsked : TType → TType → Writing → List ℕ → ℕ → Answer (List ℕ)
+mapAsked k v c out at = mapWrite (mapTypeOf (c .absent) k) (mapTypeOf (c .absent / 2) v) (low32 (c .number)) out at
 
 abbrev pub stillRow : Still → Writing → List ℕ → ℕ → Row
 stillRow Q.MessageEnd c out at = rowBy noneRow (stayAt out at)
@@ -130,17 +126,17 @@ abbrev pub mapDoes : Writing → List ℕ → ℕ → Does
 mapDoes c out at =
     ifType (kindOf (c .kind)) λ k.
     ifType (kindOf (c .other)) λ v.
-    puts (mapWrite k v c out at)
+    puts (mapAsked k v c out at)
 
 abbrev pub messageBy : Messaged → Writing → List ℕ → List ℕ → ℕ → Does
-messageBy (Message-of.Known t) c name out at = puts (writeAt (namedOutput name (messageLayout (c .strict) name t (ofZ w32 (low32 (c .number)))) at) out at)
+messageBy (Message-of.Known t) c name out at = puts (messageWrite (c .strict) name t (low32 (c .number)) out at)
 messageBy Message-of.Unknown c name out at = nothing
 
 abbrev pub messageDoes : Writing → List ℕ → List ℕ → ℕ → Does
 messageDoes c name out at = messageBy (messageOf (c .kind)) c name out at
 
 abbrev pub uuidDoes : List ℕ → List ℕ → ℕ → Does
-uuidDoes text out at = cond (eqb (length text) 16) (puts (putAt text out at)) nothing
+uuidDoes text out at = cond (eqb (length text) 16) (puts (uuidWrite text out at)) nothing
 
 abbrev pub doesOf : WriteStep → Writing → List ℕ → List ℕ → Does
 doesOf (Write.Put p) c text out = puts (putWrite p (c .number) text out (c .place))

@@ -20,7 +20,7 @@ ghost use mathlib.Core.Path.{_≡_};
 ghost use lib.ListN.{length};
 ghost use Rattle.wire.specs.Writes.{Wrote};
 ghost use Rattle.probe_numbers.specs.Numbers.{writeStepOf};
-ghost use Rattle.probe_writes.specs.Writes.{writingOf, low8, low16, low32, fieldIdOf, mapTypeOf, putWrite, headedWrite, mapWrite, stillRow, headedDoes, mapDoes, messageDoes, uuidDoes, doesOf, WriteSays};
+ghost use Rattle.probe_writes.specs.Writes.{writingOf, low8, low16, low32, fieldIdOf, mapTypeOf, putWrite, headedWrite, mapAsked, stillRow, headedDoes, mapDoes, messageDoes, uuidDoes, doesOf, WriteSays};
 
 // What a write may be asked with.
 pub struct Writing {
@@ -141,7 +141,7 @@ fn headed(out: &mut [u8], at: Cursor, call: Writing, step: Headed, t: TType) -> 
 }
 
 fn map(out: &mut [u8], at: Cursor, call: Writing, key: TType, value: TType) -> Moved
-    ensures { λ r. ⌜ Wrote r (now (out .exit)) (now (out .entry)) (mapWrite key value call (now (out .entry)) (at .at)) ⌝ }
+    ensures { λ r. ⌜ Wrote r (now (out .exit)) (now (out .entry)) (mapAsked key value call (now (out .entry)) (at .at)) ⌝ }
 {
     let absent = call.absent;
     let key_type = map_type(absent, key);

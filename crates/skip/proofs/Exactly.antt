@@ -1,15 +1,14 @@
 -- Demand 2: the skip accepts exactly where a value of that type stands, and ends where it ends; it refuses exactly as the cut tree says; and no two
 -- answers meet its promise. Assumes nothing.
-use Prim.Native.Nat.{ℕ, _≤_}
+use Prim.Native.Nat.{ℕ}
 use mathlib.Core.Path.{_≡_, sym, ap, _∙_}
 use mathlib.Core.Logic.{_↔_}
 use mathlib.Core.List.{List}
-use lib.ListN.{length}
 use Rattle.codes.specs.declared.TType.{TType}
 use Rattle.wire.specs.declared.refusal.Refusal.{Refusal}
 use Rattle.wire.proofs.Refusals.{refusalOf, told-back}
 use Rattle.config.specs.declared.configuration.TConfiguration.{TConfiguration}
-use Rattle.tree.specs.Answers.{Outcome, ended, cut-off, StandsHere, IsCut}
+use Rattle.tree.specs.Answers.{Outcome, ended, cut-off, StandsHere, RefusedHere}
 use Rattle.tree.proofs.Demands as demands
 use Rattle.tree.proofs.Only.{skip-only}
 use Rattle.binary.specs.Binary.{binary}
@@ -23,9 +22,9 @@ module _ (c : TConfiguration) (s : List ℕ) (at d sd : ℕ) (t : TType) (r : Sk
   pub accepts-exactly : (e n : ℕ) → (toldSkipped r ≡ ended e n) ↔ StandsHere binary c s at d sd t e n
   accepts-exactly e n = demands.accepts-exactly binary binary-reads c s at d sd t (toldSkipped r) (says .answers) e n
 
-  -- with the start not past the end and both depths allowed, it refuses exactly as a cut tree says
-  pub refuses : at ≤ length s → d ≤ 127 → sd ≤ 65535 → (k p n : ℕ) → (toldSkipped r ≡ cut-off k p n) ↔ IsCut binary c s at d sd t k p n
-  refuses h i j k p n = demands.refuses binary binary-reads c s at d sd t (toldSkipped r) (says .answers) h i j k p n
+  -- and it refuses exactly as 2, 20 or a cut tree say
+  pub refuses-exactly : (k p n : ℕ) → (toldSkipped r ≡ cut-off k p n) ↔ RefusedHere binary c s at d sd t k p n
+  refuses-exactly k p n = demands.refuses-exactly binary binary-reads c s at d sd t (toldSkipped r) (says .answers) k p n
 
 -- an answer from what it tells and the struct depth that it was given
 abbrev back : ℕ → Outcome → Skipped

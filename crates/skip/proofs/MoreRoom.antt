@@ -1,5 +1,5 @@
--- Demand 3: more room never alters an answer. Two skips, from one start not past the end and at one struct depth, the second with more depth (to 127),
--- limits raised or removed, and bytes appended. Assumes nothing.
+-- Demand 3: more room never alters an answer. Two skips, from one start not past the end and at one struct depth, the second with more depth
+-- (to 127, where the first was within that), limits raised or removed, and bytes appended. Assumes nothing.
 use Prim.Native.Nat.{ℕ, _≤_}
 use mathlib.Core.Path.{_≡_}
 use mathlib.Core.List.{List, _++_}
@@ -16,7 +16,7 @@ use Rattle.skip.specs.Skips.{toldSkipped, SkipSays}
 use Rattle.skip.specs.declared.till_depth.Skipped.{Skipped}
 
 module _ (old new : TConfiguration) (room : Roomier old new) (s x : List ℕ) (at d e sd : ℕ) (t : TType)
-    (h : at ≤ length s) (i : d ≤ e) (j : e ≤ 127) (a b : Skipped)
+    (h : at ≤ length s) (i : d ≤ e) (j : d ≤ 127 → e ≤ 127) (a b : Skipped)
     (first : SkipSays old s at d sd t a) (second : SkipSays new (s ++ x) at e sd t b) where
   -- an accept stays, with the same end and count
   pub accept-stays : (end n : ℕ) → toldSkipped a ≡ ended end n → toldSkipped b ≡ ended end n

@@ -60,7 +60,10 @@ fn skip_struct(
                     FieldRead::Value(field, first) => {
                         let field_type = field.field_type;
                         if field_type.is_stop() {
-                            return Walked::Passed(first, count);
+                            return match nesting::read_struct_end(bytes, first, inner) {
+                                DepthRead::Value(_, end) => Walked::Passed(end, count),
+                                DepthRead::Refused(late) => Walked::Refused(late, count),
+                            };
                         }
                         match skip_value(bytes, first, field_type, depth - 1, inner, config) {
                             Walked::Passed(next, values) => {

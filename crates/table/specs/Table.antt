@@ -5,7 +5,6 @@ use mathlib.Core.Bool.{Bool, true, false}
 use mathlib.Core.List.{List, [], _∷_}
 use lib.IntN.{pos}
 use Rattle.wire.specs.Answer.{Answer, gives, refused}
-use Rattle.wire.specs.Writes.{writeAt}
 use Rattle.codes.specs.declared.TType.{TType}
 use Rattle.codes.specs.declared.TType.the-variants as T
 use Rattle.codes.specs.declared.TMessageType.the-variants as M
@@ -17,7 +16,7 @@ use Rattle.tree.specs.Answers.{Outcome, ended, cut-off, SkipAnswers}
 use Rattle.binary.specs.Binary.{binary}
 use Rattle.skip.specs.Skips.{toldSkipped, SkipSays}
 use Rattle.skip.specs.declared.till_depth.Skipped.{Skipped}
-use Rattle.write_headers.specs.Outputs.{fieldOutput}
+use Rattle.write_headers.specs.Outputs.{fieldWrite}
 use Rattle.write_headers.specs.declared.field.FieldId.{FieldId}
 use Rattle.write_headers.specs.declared.field.FieldId.the-variants as Id
 use Rattle.framed.specs.Frames.{Next, frame, frameAt}
@@ -37,7 +36,7 @@ Settled (message-read strict s name x) = (messageAt strict (defaultLimits .«max
 Settled (skipped t depth s x) =
     SkipAnswers binary defaultLimits s 0 depth 0 t x × ((r : Skipped) → SkipSays defaultLimits s 0 depth 0 t r → toldSkipped r ≡ x)
 Settled (frame-read s x) = frameAt (defaultLimits .«max_frame_size») s 0 ≡ x
-Settled (field-written t id old new next) = writeAt (fieldOutput t id 0) old 0 ≡ gives new next
+Settled (field-written t id old new next) = fieldWrite t id old 0 ≡ gives new next
 
 abbrev pub versioned : List ℕ
 versioned = 0x80 ∷ 0x01 ∷ 0x00 ∷ 0x01 ∷ 0x00 ∷ 0x00 ∷ 0x00 ∷ 0x02 ∷ 0x61 ∷ 0x62 ∷ 0x00 ∷ 0x00 ∷ 0x00 ∷ 0x07 ∷ []

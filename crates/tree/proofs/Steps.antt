@@ -8,11 +8,12 @@ use native.Mathlib.Omega.{arith}
 use borrow.Author.Tests.{ne-eqb, eq-eqb}
 use Rattle.wire.specs.Answer.{Answer, gives, refused, refuseIf}
 use Rattle.config.specs.declared.configuration.TConfiguration.{TConfiguration}
-use Rattle.nesting.specs.Structs.{structBeginAt}
+use Rattle.nesting.specs.Structs.{structBeginAt, structEndAt}
+use Rattle.nesting.proofs.Structs.{ended}
 use Rattle.number.proofs.Widths.{Octets}
 use Rattle.tree.specs.Part.{Part}
 use Rattle.tree.proofs.Parts.{part-none, part-join, part-length}
-use Rattle.tree.proofs.Heads.{struct-is}
+use Rattle.tree.proofs.Heads.{clash, struct-is}
 use Rattle.tree.specs.Coding.{View, leaf, fields, items, pairs as pairs-view, Items, Paired, stop, going, Coding}
 use Rattle.tree.specs.Tree.{Fields, Trees, Pairs, leaf as leaf-of, struct, list as list-of, map as map-of, nil, snoc, none, then, empty, with, layout, fieldsLayout, treesLayout, pairsLayout, valuesOf, fieldsValues, treesValues, pairsValues, countOf, pairsOf, stateOf, Fits, FieldsFit, TreesFit, PairsFit}
 use Rattle.tree.specs.Answers.{viewOwn, ownAt, here, head, field-value, element, key, value, begunOf, Outcome, cut-off, leafOutcome, OpenStruct, OpenMap, Faults, Stands, IsCut, Answers}
@@ -132,6 +133,17 @@ module _ (C : Coding) (L : laws.Reads C) (c : TConfiguration) (s : List ℕ) (at
             };
         counted = w .counted;
       }
+
+  -- "and the struct end": after the fields it is never refused, and the place stays
+  module _ {st : C .State} {cur count e : ℕ} (w : StructLoop C c s at d sd st cur count) (f : gives stop e ≡ C .fieldAt st s cur) {inner : ℕ} (deeper : inner ≡ sd + 1) where
+    ends : gives (inner - 1) e ≡ structEndAt inner s e
+    ends = ended inner s e (L .field-is st s cur f .part .within) (omega (arith, struct-is c sd s at (w .begun) .cap)) (λ z. omega arith)
+
+    pub struct-closes : (k : C .Kind) → C .view k ≡ fields → {v q : ℕ} → gives v q ≡ structEndAt inner s e → Stands C c s at d sd k q count
+    struct-closes k h {v} {q} g = let same : e ≡ q = cc (ends ∙ sym g) in rw same at (struct-stands k h cur count w f)
+
+    pub struct-stays-open : {A : Type 0} {n p : ℕ} → refused n p ≡ structEndAt inner s e → A
+    struct-stays-open g = clash (cc (ends ∙ sym g))
 
   open-struct : (k : C .Kind) → C .view k ≡ fields → {st : C .State} {cur count : ℕ} {rest : C .State → ℕ → Type 0} (w : StructLoop C c s at d sd st cur count) → rest st cur → OpenStruct C c s at d sd k (w .fs) rest
   open-struct k v {st} {cur} {count} {rest} w x =

@@ -158,6 +158,17 @@ pub record StandsHere (C : Coding) (c : TConfiguration) (s : List ℕ) (at d sd 
   pub structs : sd ≤ 65535
   pub stands : Stands C c s at d sd k e n
 
+-- the entry's own refusals: 2, "start beyond the buffer's length"; 20, "depth above 127, or struct depth above 65,535"
+pub data Barred (s : List ℕ) (at d sd : ℕ) : ℕ → Type 0 where
+  beyond : length s < at → Barred s at d sd 2
+  structs : at ≤ length s → 65535 < sd → Barred s at d sd 20
+  depth : at ≤ length s → 127 < d → Barred s at d sd 20
+
+-- a skip is refused at a place: at the entry, "count, 0 for 2 and 20"; or in the value, as a cut tree says
+pub data RefusedHere (C : Coding) (c : TConfiguration) (s : List ℕ) (at d sd : ℕ) (k : C .Kind) (n p count : ℕ) : Type 0 where
+  at-entry : Barred s at d sd n → p ≡ at → count ≡ 0 → RefusedHere C c s at d sd k n p count
+  in-value : at ≤ length s → d ≤ 127 → sd ≤ 65535 → IsCut C c s at d sd k n p count → RefusedHere C c s at d sd k n p count
+
 -- what the skip of a value answers
 abbrev pub SkipAnswers : (C : Coding) → TConfiguration → List ℕ → ℕ → ℕ → ℕ → C .Kind → Outcome → Type 0
 SkipAnswers C c s at d sd k x = AfterEntry (skipEntry d sd s at) x (Answers C c s at d sd k x)

@@ -23,8 +23,7 @@ use Rattle.number.specs.Reads.{numberAt, byteAt, boolAt, i8At, i16At, i32At, i6
 use Rattle.number.proofs.Widths.{written, signed-written, length-bytesOf}
 use Rattle.config.specs.Limits.{above}
 use Rattle.config.specs.declared.limit.Limit.{Limit}
-use Rattle.text.specs.Texts.{span, sizedLayout, bytesIn, sizedAt, bytesAt, stringAt, uuidAt}
-use Rattle.text.specs.declared.Span.{Span}
+use Rattle.text.specs.Texts.{span, sizedLayout, sizedAt, bytesAt, stringAt, uuidAt}
 use Rattle.text.proofs.Texts as texts
 use Rattle.text.specs.declared.Body.{Body}
 use Rattle.text.specs.declared.Body.the-variants as Body-of
@@ -32,7 +31,8 @@ use Rattle.tree.specs.Part.{Part}
 use Rattle.tree.proofs.Parts.{part-length, part-split}
 use Rattle.tree.proofs.Reading.{part-within, number-reads}
 use Rattle.binary.proofs.Reading.{sized-reads}
-use Rattle.write.specs.Outputs.{boolByte, bytesOutput, namedOutput}
+use Rattle.write.specs.Found.{Found}
+use Rattle.write.specs.Outputs.{bytesOutput, byteWrite, boolWrite, i8Write, i16Write, i32Write, i64Write, doubleWrite, uuidWrite, bytesWrite, stringWrite}
 use Rattle.write.proofs.Outputs.{Name, short, is-short, with-name, written-name}
 
 -- bytes that were laid stand where they were laid
@@ -57,12 +57,6 @@ stands output out at {bs} {new} {q} {next} e w =
     let buffer : new ≡ laid bs out at = cc (b .on) in
     let place : next ≡ at + length bs = cc (b .on, has-room (length out) at (length bs) (b .gave) .after) in
     rw (buffer, place) (laid-part bs out at room)
-
--- a text or a UUID that was read, and that its bytes are those that were written
-pub record Found (s b : List ℕ) (read : Answer Span) (next : ℕ) : Type 0 where
-  pub place : Span
-  pub gave : gives place next ≡ read
-  pub bytes : bytesIn s place ≡ b
 
 -- a size and its bytes within the reader's limit
 module _ {s : List ℕ} {at e : ℕ} (limit : Limit) (b : List ℕ) (below : above (length b) limit ≡ false) (p : Part s at e (sizedLayout b)) where
@@ -93,47 +87,47 @@ module _ (out : List ℕ) (at : ℕ) {new : List ℕ} {next : ℕ} where
       ap (λ (z : ℤ). gives z next) (sym (signed-written w k v s f))
       ∙ number-reads (bytesOf w (ofZ k v)) w (toZ k) (length-bytesOf w (ofZ k v)) (stands _ out at refl e)
 
-  pub i8-back : (v : ℤ) → SFits w8 v → gives new next ≡ putAt (bytesOf 1 (ofZ w8 v)) out at → gives v next ≡ i8At new at
+  pub i8-back : (v : ℤ) → SFits w8 v → gives new next ≡ i8Write v out at → gives v next ≡ i8At new at
   i8-back v f e = signed-back 1 w8 v refl f e
 
-  pub i16-back : (v : ℤ) → SFits w16 v → gives new next ≡ putAt (bytesOf 2 (ofZ w16 v)) out at → gives v next ≡ i16At new at
+  pub i16-back : (v : ℤ) → SFits w16 v → gives new next ≡ i16Write v out at → gives v next ≡ i16At new at
   i16-back v f e = signed-back 2 w16 v refl f e
 
-  pub i32-back : (v : ℤ) → SFits w32 v → gives new next ≡ putAt (bytesOf 4 (ofZ w32 v)) out at → gives v next ≡ i32At new at
+  pub i32-back : (v : ℤ) → SFits w32 v → gives new next ≡ i32Write v out at → gives v next ≡ i32At new at
   i32-back v f e = signed-back 4 w32 v refl f e
 
-  pub i64-back : (v : ℤ) → SFits w64 v → gives new next ≡ putAt (bytesOf 8 (ofZ w64 v)) out at → gives v next ≡ i64At new at
+  pub i64-back : (v : ℤ) → SFits w64 v → gives new next ≡ i64Write v out at → gives v next ≡ i64At new at
   i64-back v f e = signed-back 8 w64 v refl f e
 
-  pub byte-back : (b : ℕ) → gives new next ≡ putAt (b ∷ []) out at → gives b next ≡ byteAt new at
+  pub byte-back : (b : ℕ) → gives new next ≡ byteWrite b out at → gives b next ≡ byteAt new at
   unfolding big
   byte-back b e = ap (λ (n : ℕ). gives n next) (omega arith) ∙ number-reads (b ∷ []) 1 (λ (n : ℕ). n) refl (stands _ out at refl e)
 
-  pub bool-back : (b : Bool) → gives new next ≡ putAt (boolByte b ∷ []) out at → gives b next ≡ boolAt new at
+  pub bool-back : (b : Bool) → gives new next ≡ boolWrite b out at → gives b next ≡ boolAt new at
   unfolding big
   bool-back true e = number-reads (1 ∷ []) 1 (λ (n : ℕ). not (eqb n 0)) refl (stands _ out at refl e)
   bool-back false e = number-reads (0 ∷ []) 1 (λ (n : ℕ). not (eqb n 0)) refl (stands _ out at refl e)
 
   -- a double, by its pattern; the one NaN too
-  pub double-back : (x : Float) → T (fits binary64 x) → gives new next ≡ putAt (bytesOf 8 (toBits binary64 x)) out at → gives x next ≡ doubleAt new at
+  pub double-back : (x : Float) → T (fits binary64 x) → gives new next ≡ doubleWrite x out at → gives x next ≡ doubleAt new at
   double-back x f e =
       let whole : toBits binary64 x % 256 ^ 8 ≡ toBits binary64 x = mod-eq-of-lt (toBits-lt binary64 x f) in
       ap (λ (y : Float). gives y next) (sym (ap (ofBits binary64) whole ∙ ofBits-toBits binary64 x f))
       ∙ number-back 8 (toBits binary64 x) (ofBits binary64) e
 
-  pub uuid-back : (id : List ℕ) → length id ≡ 16 → gives new next ≡ putAt id out at → Found new id (uuidAt new at) next
+  pub uuid-back : (id : List ℕ) → length id ≡ 16 → gives new next ≡ uuidWrite id out at → Found new id (uuidAt new at) next
   uuid-back id l e =
       let p = stands _ out at refl e in
       record { place = span at next; gave = texts.uuid new at (part-within id 16 l p); bytes = p .bytes }
 
   -- bytes and strings, within the reader's limit
   module _ (limit : Limit) (b : List ℕ) (below : above (length b) limit ≡ false) where
-    pub bytes-back : gives new next ≡ writeAt (bytesOutput b at) out at → Found new b (bytesAt limit new at) next
+    pub bytes-back : gives new next ≡ bytesWrite b out at → Found new b (bytesAt limit new at) next
     bytes-back e =
         let h = is-short b at (put-down (bytesOutput b at) out at e .gave) in
         sized-found limit b below (stands _ out at (short b at h) e) Body-of.Text h
 
-    pub string-back : gives new next ≡ writeAt (namedOutput b (sizedLayout b) at) out at → Found new b (stringAt limit new at) next
+    pub string-back : gives new next ≡ stringWrite b out at → Found new b (stringAt limit new at) next
     string-back e =
         let n = written-name b (sizedLayout b) out at e in
         string-found limit b below (stands _ out at (with-name (sizedLayout b) at n) e) n

@@ -2,10 +2,16 @@
 -- are `writeAt`'s, 17 a field's and a map's (write_headers), 20, 11 and 14 those of struct begin and end, which put down nothing.
 use Prim.Native.Nat.{ℕ}
 use mathlib.Core.Bool.{Bool, true, false}
-use mathlib.Core.List.{List}
+use mathlib.Core.List.{List, [], _∷_}
 use lib.Dec.{ltb}
 use lib.ListN.{length}
+use lib.IntN.{ℤ}
+use lib.Ieee.{Float, binary64, toBits}
+use mir.Syntax.{w8, w16, w32, w64}
+use mir.Val.{ofZ}
 use Rattle.wire.specs.Answer.{Answer, gives, refuseIf, entryOf}
+use Rattle.wire.specs.Writes.{putAt, writeAt}
+use Rattle.number.specs.BigEndian.{bytesOf}
 use Rattle.utf8.specs.UpTo.{upTo}
 use Rattle.text.specs.Texts.{sizedLayout}
 
@@ -32,3 +38,36 @@ nameChecked n at name = entryOf n at (ifName name at (gives tt at))
 -- bytes with a name among them: a string, or a message's header
 unfoldable pub namedOutput : List ℕ → List ℕ → ℕ → Answer (List ℕ)
 namedOutput name bs at = ifName name at (gives bs at)
+
+-- What each writer of a value comes to, in a buffer at a place: "All numbers are big-endian, signed ones two's complement", by their bits (`ofZ`)
+abbrev pub byteWrite : ℕ → List ℕ → ℕ → Answer (List ℕ)
+byteWrite b out at = putAt (b ∷ []) out at
+
+abbrev pub boolWrite : Bool → List ℕ → ℕ → Answer (List ℕ)
+boolWrite b out at = putAt (boolByte b ∷ []) out at
+
+abbrev pub i8Write : ℤ → List ℕ → ℕ → Answer (List ℕ)
+i8Write v out at = putAt (bytesOf 1 (ofZ w8 v)) out at
+
+abbrev pub i16Write : ℤ → List ℕ → ℕ → Answer (List ℕ)
+i16Write v out at = putAt (bytesOf 2 (ofZ w16 v)) out at
+
+abbrev pub i32Write : ℤ → List ℕ → ℕ → Answer (List ℕ)
+i32Write v out at = putAt (bytesOf 4 (ofZ w32 v)) out at
+
+abbrev pub i64Write : ℤ → List ℕ → ℕ → Answer (List ℕ)
+i64Write v out at = putAt (bytesOf 8 (ofZ w64 v)) out at
+
+-- a double by its pattern (`toBits`)
+abbrev pub doubleWrite : Float → List ℕ → ℕ → Answer (List ℕ)
+doubleWrite x out at = putAt (bytesOf 8 (toBits binary64 x)) out at
+
+-- "A UUID is written from 16 bytes by value"
+abbrev pub uuidWrite : List ℕ → List ℕ → ℕ → Answer (List ℕ)
+uuidWrite id out at = putAt id out at
+
+abbrev pub bytesWrite : List ℕ → List ℕ → ℕ → Answer (List ℕ)
+bytesWrite b out at = writeAt (bytesOutput b at) out at
+
+abbrev pub stringWrite : List ℕ → List ℕ → ℕ → Answer (List ℕ)
+stringWrite b out at = writeAt (namedOutput b (sizedLayout b) at) out at

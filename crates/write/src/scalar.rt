@@ -1,18 +1,13 @@
 // Bytes, bools, numbers and doubles.
 use wire::cursor::Cursor;
 use wire::cursor::Moved;
-ghost use mathlib.Core.Path.{_≡_};
-ghost use mathlib.Core.List.{[], _∷_};
-ghost use lib.Ieee.{binary64, toBits};
-ghost use mir.Syntax.{w8, w16, w32, w64};
-ghost use mir.Val.{ofZ};
 ghost use Rattle.wire.specs.Writes.{Wrote, putAt};
 ghost use Rattle.number.specs.BigEndian.{bytesOf};
-ghost use Rattle.write.specs.Outputs.{boolByte};
+ghost use Rattle.write.specs.Outputs.{byteWrite, boolWrite, i8Write, i16Write, i32Write, i64Write, doubleWrite};
 
 // 0 or 1.
 pub fn write_bool(out: &mut [u8], cursor: Cursor, b: bool) -> Moved
-    ensures { λ r. ⌜ Wrote r (now (out .exit)) (now (out .entry)) (putAt (boolByte b ∷ []) (now (out .entry)) (cursor .at)) ⌝ }
+    ensures { λ r. ⌜ Wrote r (now (out .exit)) (now (out .entry)) (boolWrite b (now (out .entry)) (cursor .at)) ⌝ }
 {
     if b {
         return write_byte(out, cursor, 1);
@@ -21,13 +16,13 @@ pub fn write_bool(out: &mut [u8], cursor: Cursor, b: bool) -> Moved
 }
 
 pub fn write_i8(out: &mut [u8], cursor: Cursor, i: i8) -> Moved
-    ensures { λ r. ⌜ Wrote r (now (out .exit)) (now (out .entry)) (putAt (bytesOf 1 (ofZ w8 i)) (now (out .entry)) (cursor .at)) ⌝ }
+    ensures { λ r. ⌜ Wrote r (now (out .exit)) (now (out .entry)) (i8Write i (now (out .entry)) (cursor .at)) ⌝ }
 {
     write_byte(out, cursor, sign::bits8(i))
 }
 
 pub fn write_i16(out: &mut [u8], cursor: Cursor, i: i16) -> Moved
-    ensures { λ r. ⌜ Wrote r (now (out .exit)) (now (out .entry)) (putAt (bytesOf 2 (ofZ w16 i)) (now (out .entry)) (cursor .at)) ⌝ }
+    ensures { λ r. ⌜ Wrote r (now (out .exit)) (now (out .entry)) (i16Write i (now (out .entry)) (cursor .at)) ⌝ }
 {
     let at = cursor.at;
     match cursor.room(out.len(), 2) {
@@ -40,7 +35,7 @@ pub fn write_i16(out: &mut [u8], cursor: Cursor, i: i16) -> Moved
 }
 
 pub fn write_i32(out: &mut [u8], cursor: Cursor, i: i32) -> Moved
-    ensures { λ r. ⌜ Wrote r (now (out .exit)) (now (out .entry)) (putAt (bytesOf 4 (ofZ w32 i)) (now (out .entry)) (cursor .at)) ⌝ }
+    ensures { λ r. ⌜ Wrote r (now (out .exit)) (now (out .entry)) (i32Write i (now (out .entry)) (cursor .at)) ⌝ }
 {
     let at = cursor.at;
     match cursor.room(out.len(), 4) {
@@ -67,20 +62,20 @@ fn write_u64(out: &mut [u8], cursor: Cursor, bits: u64) -> Moved
 }
 
 pub fn write_i64(out: &mut [u8], cursor: Cursor, i: i64) -> Moved
-    ensures { λ r. ⌜ Wrote r (now (out .exit)) (now (out .entry)) (putAt (bytesOf 8 (ofZ w64 i)) (now (out .entry)) (cursor .at)) ⌝ }
+    ensures { λ r. ⌜ Wrote r (now (out .exit)) (now (out .entry)) (i64Write i (now (out .entry)) (cursor .at)) ⌝ }
 {
     write_u64(out, cursor, sign::bits64(i))
 }
 
 // A NaN is written as 7ff8 0000 0000 0000; write_i64 is the call that keeps its payload.
 pub fn write_double(out: &mut [u8], cursor: Cursor, d: f64) -> Moved
-    ensures { λ r. ⌜ Wrote r (now (out .exit)) (now (out .entry)) (putAt (bytesOf 8 (toBits binary64 d)) (now (out .entry)) (cursor .at)) ⌝ }
+    ensures { λ r. ⌜ Wrote r (now (out .exit)) (now (out .entry)) (doubleWrite d (now (out .entry)) (cursor .at)) ⌝ }
 {
     write_u64(out, cursor, sign::pattern(d))
 }
 
 pub fn write_byte(out: &mut [u8], cursor: Cursor, b: u8) -> Moved
-    ensures { λ r. ⌜ Wrote r (now (out .exit)) (now (out .entry)) (putAt (b ∷ []) (now (out .entry)) (cursor .at)) ⌝ }
+    ensures { λ r. ⌜ Wrote r (now (out .exit)) (now (out .entry)) (byteWrite b (now (out .entry)) (cursor .at)) ⌝ }
 {
     let at = cursor.at;
     match cursor.room(out.len(), 1) {

@@ -4,14 +4,12 @@ use wire::cursor::Moved;
 use wire::refusal::Kind;
 use wire::refusal::Refusal;
 ghost use mathlib.Core.Path.{_≡_};
-ghost use Rattle.wire.specs.Answer.{gives, entry};
 ghost use Rattle.wire.specs.Refusals.{toldMoved};
-ghost use Rattle.wire.specs.Writes.{Wrote, putAt, writeAt};
-ghost use Rattle.text.specs.Texts.{sizedLayout};
-ghost use Rattle.write.specs.Outputs.{bytesOutput, nameChecked, namedOutput};
+ghost use Rattle.wire.specs.Writes.{Wrote};
+ghost use Rattle.write.specs.Outputs.{nameChecked, bytesWrite, stringWrite, uuidWrite};
 
 pub fn write_bytes(out: &mut [u8], cursor: Cursor, b: &[u8]) -> Moved
-    ensures { λ r. ⌜ Wrote r (now (out .exit)) (now (out .entry)) (writeAt (bytesOutput (now (b .entry)) (cursor .at)) (now (out .entry)) (cursor .at)) ⌝ }
+    ensures { λ r. ⌜ Wrote r (now (out .exit)) (now (out .entry)) (bytesWrite (now (b .entry)) (now (out .entry)) (cursor .at)) ⌝ }
 {
     let at = cursor.at;
     if out.len() < at {
@@ -62,7 +60,7 @@ pub fn check_name(len: usize, cursor: Cursor, name: &[u8]) -> Moved
 }
 
 pub fn write_string(out: &mut [u8], cursor: Cursor, s: &[u8]) -> Moved
-    ensures { λ r. ⌜ Wrote r (now (out .exit)) (now (out .entry)) (writeAt (namedOutput (now (s .entry)) (sizedLayout (now (s .entry))) (cursor .at)) (now (out .entry)) (cursor .at)) ⌝ }
+    ensures { λ r. ⌜ Wrote r (now (out .exit)) (now (out .entry)) (stringWrite (now (s .entry)) (now (out .entry)) (cursor .at)) ⌝ }
 {
     match check_name(out.len(), cursor, s) {
         Moved::To(_) => write_bytes(out, cursor, s),
@@ -71,7 +69,7 @@ pub fn write_string(out: &mut [u8], cursor: Cursor, s: &[u8]) -> Moved
 }
 
 pub fn write_uuid(out: &mut [u8], cursor: Cursor, uuid: [u8; 16]) -> Moved
-    ensures { λ r. ⌜ Wrote r (now (out .exit)) (now (out .entry)) (putAt uuid (now (out .entry)) (cursor .at)) ⌝ }
+    ensures { λ r. ⌜ Wrote r (now (out .exit)) (now (out .entry)) (uuidWrite uuid (now (out .entry)) (cursor .at)) ⌝ }
 {
     let at = cursor.at;
     match cursor.room(out.len(), 16) {

@@ -6,10 +6,12 @@ use lib.IntN.{ℤ}
 use mir.Syntax.{w16, w32}
 use mir.Val.{ofZ}
 use Rattle.wire.specs.Answer.{Answer, gives, refused, refuseIf}
+use Rattle.wire.specs.Writes.{putAt, writeAt}
 use Rattle.codes.specs.Codes.{typeByte, isStop}
 use Rattle.codes.specs.declared.TType.{TType}
+use Rattle.codes.specs.declared.TType.the-variants as T
 use Rattle.number.specs.BigEndian.{bytesOf}
-use Rattle.read.specs.Layouts.{fieldLayout, mapLayout}
+use Rattle.read.specs.Layouts.{fieldLayout, listLayout, mapLayout}
 use Rattle.write_headers.specs.declared.field.FieldId.{FieldId}
 use Rattle.write_headers.specs.declared.field.FieldId.the-variants as Id
 use Rattle.write_headers.specs.declared.container.MapType.{MapType}
@@ -25,3 +27,18 @@ unfoldable pub mapOutput : MapType → MapType → ℤ → ℕ → Answer (List 
 mapOutput Of-map.Absent value size at = refused 17 at
 mapOutput (Of-map.Of k) Of-map.Absent size at = refused 17 at
 mapOutput (Of-map.Of k) (Of-map.Of v) size at = gives (mapLayout k v (ofZ w32 size)) at
+
+-- What each writer of a header comes to, in a buffer at a place
+abbrev pub fieldWrite : TType → FieldId → List ℕ → ℕ → Answer (List ℕ)
+fieldWrite t id out at = writeAt (fieldOutput t id at) out at
+
+-- "the stop writer" writes one byte
+abbrev pub stopWrite : List ℕ → ℕ → Answer (List ℕ)
+stopWrite out at = putAt (typeByte T.Stop ∷ []) out at
+
+-- "Negative container sizes are written as given"
+abbrev pub listWrite : TType → ℤ → List ℕ → ℕ → Answer (List ℕ)
+listWrite t size out at = putAt (listLayout t (ofZ w32 size)) out at
+
+abbrev pub mapWrite : MapType → MapType → ℤ → List ℕ → ℕ → Answer (List ℕ)
+mapWrite k v size out at = writeAt (mapOutput k v size at) out at

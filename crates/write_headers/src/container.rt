@@ -7,13 +7,11 @@ use wire::cursor::Moved;
 ghost use mathlib.Core.Path.{_≡_};
 ghost use Prim.Native.Nat.{_≤_};
 ghost use lib.ListN.{length};
-ghost use mir.Syntax.{w32};
-ghost use mir.Val.{ofZ};
 ghost use Rattle.wire.specs.Answer.{stayAt};
 ghost use Rattle.wire.specs.Refusals.{toldMoved};
-ghost use Rattle.wire.specs.Writes.{Wrote, putAt, writeAt, inFront};
+ghost use Rattle.wire.specs.Writes.{Wrote, putAt, inFront};
 ghost use Rattle.read.specs.Layouts.{listLayout, mapLayout};
-ghost use Rattle.write_headers.specs.Outputs.{mapOutput};
+ghost use Rattle.write_headers.specs.Outputs.{listWrite, mapWrite};
 
 // A map's key or value type, which must be there.
 pub enum MapType {
@@ -44,7 +42,7 @@ fn write_elements(out: &mut [u8], cursor: Cursor, element_type: TType, size: u32
 }
 
 pub fn write_list_begin(out: &mut [u8], cursor: Cursor, list: TListIdentifier) -> Moved
-    ensures { λ r. ⌜ Wrote r (now (out .exit)) (now (out .entry)) (putAt (listLayout (list .«element_type») (ofZ w32 (list .size))) (now (out .entry)) (cursor .at)) ⌝ }
+    ensures { λ r. ⌜ Wrote r (now (out .exit)) (now (out .entry)) (listWrite (list .«element_type») (list .size) (now (out .entry)) (cursor .at)) ⌝ }
 {
     let element_type = list.element_type;
     let size = list.size;
@@ -58,7 +56,7 @@ pub fn write_list_end(out: &[u8], cursor: Cursor) -> Moved
 }
 
 pub fn write_set_begin(out: &mut [u8], cursor: Cursor, set: TSetIdentifier) -> Moved
-    ensures { λ r. ⌜ Wrote r (now (out .exit)) (now (out .entry)) (putAt (listLayout (set .«element_type») (ofZ w32 (set .size))) (now (out .entry)) (cursor .at)) ⌝ }
+    ensures { λ r. ⌜ Wrote r (now (out .exit)) (now (out .entry)) (listWrite (set .«element_type») (set .size) (now (out .entry)) (cursor .at)) ⌝ }
 {
     let element_type = set.element_type;
     let size = set.size;
@@ -106,7 +104,7 @@ pub fn write_map_begin(
     value_type: MapType,
     size: i32,
 ) -> Moved
-    ensures { λ r. ⌜ Wrote r (now (out .exit)) (now (out .entry)) (writeAt (mapOutput «key_type» «value_type» size (cursor .at)) (now (out .entry)) (cursor .at)) ⌝ }
+    ensures { λ r. ⌜ Wrote r (now (out .exit)) (now (out .entry)) (mapWrite «key_type» «value_type» size (now (out .entry)) (cursor .at)) ⌝ }
 {
     match key_type {
         MapType::Absent => crate::field::missing(out.len(), cursor),

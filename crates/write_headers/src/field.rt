@@ -5,17 +5,15 @@ use wire::cursor::Moved;
 use wire::refusal::Kind;
 use wire::refusal::Refusal;
 ghost use mathlib.Core.Path.{_≡_};
-ghost use mathlib.Core.List.{[], _∷_};
 ghost use Prim.Native.Nat.{_≤_};
 ghost use lib.Dec.{ltb};
 ghost use lib.ListN.{length};
 ghost use Rattle.wire.specs.Answer.{stayAt, refuseIf, refused};
-ghost use Rattle.codes.specs.Codes.{typeByte};
 ghost use Rattle.wire.specs.Refusals.{toldMoved};
-ghost use Rattle.wire.specs.Writes.{Wrote, putAt, writeAt, inFront};
+ghost use Rattle.wire.specs.Writes.{Wrote, putAt, inFront};
 ghost use Rattle.number.specs.BigEndian.{bytesOf};
 ghost use Rattle.read.specs.Layouts.{fieldLayout};
-ghost use Rattle.write_headers.specs.Outputs.{fieldOutput};
+ghost use Rattle.write_headers.specs.Outputs.{fieldWrite, stopWrite};
 
 // A field's id, which a Stop may lack.
 pub enum FieldId {
@@ -62,7 +60,7 @@ fn write_with_id(out: &mut [u8], cursor: Cursor, field_type: TType, id: u16) -> 
 }
 
 pub fn write_field_begin(out: &mut [u8], cursor: Cursor, field_type: TType, id: FieldId) -> Moved
-    ensures { λ r. ⌜ Wrote r (now (out .exit)) (now (out .entry)) (writeAt (fieldOutput «field_type» id (cursor .at)) (now (out .entry)) (cursor .at)) ⌝ }
+    ensures { λ r. ⌜ Wrote r (now (out .exit)) (now (out .entry)) (fieldWrite «field_type» id (now (out .entry)) (cursor .at)) ⌝ }
 {
     match id {
         FieldId::Of(id) => { write_with_id(out, cursor, field_type, sign::bits16(id)) }
@@ -83,7 +81,7 @@ pub fn write_field_end(out: &[u8], cursor: Cursor) -> Moved
 }
 
 pub fn write_field_stop(out: &mut [u8], cursor: Cursor) -> Moved
-    ensures { λ r. ⌜ Wrote r (now (out .exit)) (now (out .entry)) (putAt (typeByte TType.Stop ∷ []) (now (out .entry)) (cursor .at)) ⌝ }
+    ensures { λ r. ⌜ Wrote r (now (out .exit)) (now (out .entry)) (stopWrite (now (out .entry)) (cursor .at)) ⌝ }
 {
     write::scalar::write_byte(out, cursor, codes::field_type_to_u8(TType::Stop))
 }

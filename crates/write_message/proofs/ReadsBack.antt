@@ -10,7 +10,6 @@ use mir.Syntax.{w32}
 use mir.Val.{SFits, toZ, ofZ}
 use Rattle.wire.specs.Answer.{Answer, gives}
 use Rattle.codes.specs.Codes.{messageByte}
-use Rattle.wire.specs.Writes.{writeAt}
 use Rattle.codes.specs.declared.TMessageType.{TMessageType}
 use Rattle.codes.proofs.RoundTrips.{message-written}
 use Rattle.number.specs.BigEndian.{big, bytesOf}
@@ -18,7 +17,7 @@ use Rattle.number.specs.Reads.{byteAt, i32At}
 use Rattle.number.proofs.Widths.{signed-written, length-bytesOf}
 use Rattle.config.specs.Limits.{above}
 use Rattle.config.specs.declared.limit.Limit.{Limit}
-use Rattle.text.specs.Texts.{sizedLayout, bytesIn}
+use Rattle.text.specs.Texts.{sizedLayout}
 use Rattle.text.specs.declared.Span.{Span}
 use Rattle.message.specs.Layouts.{messageLayout}
 use Rattle.message.specs.Messages.{messageTypeAt, message, messageAt}
@@ -27,15 +26,14 @@ use Rattle.message.proofs.Messages as messages
 use Rattle.tree.specs.Part.{Part}
 use Rattle.tree.proofs.Parts.{part-split, part-first}
 use Rattle.tree.proofs.Reading.{part-within, number-reads}
-use Rattle.write.specs.Outputs.{namedOutput}
+use Rattle.write.specs.Found.{Finds}
 use Rattle.write.proofs.Outputs.{Name, with-name, written-name}
 use Rattle.write.proofs.ReadsBack.{stands, string-found}
+use Rattle.write_message.specs.Outputs.{messageWrite}
 
 -- a header that was read: type, sequence number, and a name whose bytes are those that were written
-pub record Headed (s name : List ℕ) (t : TMessageType) (seq : ℤ) (read : Answer TMessageIdentifier) (next : ℕ) : Type 0 where
-  pub place : Span
-  pub gave : gives (message place t seq) next ≡ read
-  pub bytes : bytesIn s place ≡ name
+abbrev Headed : List ℕ → List ℕ → TMessageType → ℤ → Answer TMessageIdentifier → ℕ → Type 0
+Headed s name t seq read next = Finds (λ (p : Span). message p t seq) s name read next
 
 module _ {s : List ℕ} {at e : ℕ} where
   message-type-reads : (t : TMessageType) → Part s at e (messageByte t ∷ []) → gives t e ≡ messageTypeAt s at
@@ -96,15 +94,15 @@ module _ (limit : Limit) (name : List ℕ) (t : TMessageType) (seq : ℤ) (below
 -- within the reader's limit
 module _ (limit : Limit) (name : List ℕ) (t : TMessageType) (seq : ℤ) (below : above (length name) limit ≡ false) (g : SFits w32 seq)
     (out : List ℕ) (at : ℕ) {new : List ℕ} {next : ℕ} where
-  pub strict-message-back : (reader : Bool) → gives new next ≡ writeAt (namedOutput name (messageLayout true name t (ofZ w32 seq)) at) out at
-      → Headed new name t seq (messageAt reader limit new at) next
+  pub strict-message-back : (reader : Bool) → gives new next ≡ messageWrite true name t seq out at
+      → Finds (λ (p : Span). message p t seq) new name (messageAt reader limit new at) next
   strict-message-back reader e =
       let bs = messageLayout true name t (ofZ w32 seq) in
       let n = written-name name bs out at e in
       strict-reads limit name t seq below n g reader (stands _ out at (with-name bs at n) e)
 
-  pub older-message-back : gives new next ≡ writeAt (namedOutput name (messageLayout false name t (ofZ w32 seq)) at) out at
-      → Headed new name t seq (messageAt false limit new at) next
+  pub older-message-back : gives new next ≡ messageWrite false name t seq out at
+      → Finds (λ (p : Span). message p t seq) new name (messageAt false limit new at) next
   older-message-back e =
       let bs = messageLayout false name t (ofZ w32 seq) in
       let n = written-name name bs out at e in

@@ -6,13 +6,11 @@ ghost use mathlib.Core.Bool.{true, false};
 ghost use mathlib.Core.Path.{_≡_};
 ghost use Prim.Native.Nat.{_+_, _≤_};
 ghost use lib.ListN.{length};
-ghost use mir.Syntax.{w32};
-ghost use mir.Val.{ofZ};
 ghost use Rattle.wire.specs.Answer.{stayAt};
 ghost use Rattle.wire.specs.Refusals.{toldMoved};
-ghost use Rattle.wire.specs.Writes.{Wrote, putAt, writeAt, inFront};
+ghost use Rattle.wire.specs.Writes.{Wrote, putAt, inFront};
 ghost use Rattle.message.specs.Layouts.{messageLayout};
-ghost use Rattle.write.specs.Outputs.{namedOutput};
+ghost use Rattle.write_message.specs.Outputs.{messageWrite};
 
 // The version and the type in four bytes, the name, the sequence number.
 fn put_versioned(out: &mut [u8], name: &[u8], message_type: TMessageType, sequence: u32)
@@ -84,7 +82,7 @@ pub fn write_message_begin(
     message_type: TMessageType,
     sequence_number: i32,
 ) -> Moved
-    ensures { λ r. ⌜ Wrote r (now (out .exit)) (now (out .entry)) (writeAt (namedOutput (now (name .entry)) (messageLayout strict (now (name .entry)) «message_type» (ofZ w32 «sequence_number»)) (cursor .at)) (now (out .entry)) (cursor .at)) ⌝ }
+    ensures { λ r. ⌜ Wrote r (now (out .exit)) (now (out .entry)) (messageWrite strict (now (name .entry)) «message_type» «sequence_number» (now (out .entry)) (cursor .at)) ⌝ }
 {
     match write::string::check_name(out.len(), cursor, name) {
         Moved::To(_) => {

@@ -43,6 +43,7 @@ use Rattle.read.proofs.container.read_list_begin.Reads as read-list-begin-reads
 use Rattle.read.proofs.container.read_map_begin.Reads as read-map-begin-reads
 use Rattle.read.proofs.field.read_field_begin.Reads as read-field-begin-reads
 use Rattle.nesting.proofs.read_struct_begin.Reads as read-struct-begin-reads
+use Rattle.nesting.proofs.read_struct_end.Reads as read-struct-end-reads
 use Rattle.leaf.proofs.refused.Reads as refused-reads
 use Rattle.leaf.proofs.skip_fixed.Reads as skip-fixed-reads
 use Rattle.leaf.proofs.skip_text.Reads as skip-text-reads
@@ -100,7 +101,7 @@ abbrev skip-map-claims : ℕ → skip-map-lts.Claims
 skip-map-claims t = (read-map-begin-reads.Asked, read-map-begin-reads.Learnt, bits32-reads.Asked, bits32-reads.Learnt, skip-value-below t, skip-value.Post)
 
 abbrev skip-struct-claims : ℕ → skip-struct-lts.Claims
-skip-struct-claims t = (read-struct-begin-reads.Asked, read-struct-begin-reads.Learnt, read-field-begin-reads.Asked, read-field-begin-reads.Learnt, is-stop-reads.Asked, is-stop-reads.Learnt, skip-value-below t, skip-value.Post)
+skip-struct-claims t = (read-struct-begin-reads.Asked, read-struct-begin-reads.Learnt, read-field-begin-reads.Asked, read-field-begin-reads.Learnt, is-stop-reads.Asked, is-stop-reads.Learnt, read-struct-end-reads.Asked, read-struct-end-reads.Learnt, skip-value-below t, skip-value.Post)
 
 abbrev skip-value-claims : ℕ → skip-value-lts.Claims
 skip-value-claims t = (refused-reads.Asked, refused-reads.Learnt, shape-of-reads.Asked, shape-of-reads.Learnt, skip-fixed-reads.Asked, skip-fixed-reads.Learnt, skip-text-reads.Asked, skip-text-reads.Learnt, skip-struct-below t, skip-struct.Post, skip-list-below t, skip-list.Post, skip-map-below t, skip-map.Post)
@@ -188,7 +189,11 @@ pub +skip-list+skip-map+skip-struct+skip-value-spec : {M : Type 1} → statement
     (λ c κs. search needs)
     (λ c. search needs)
     (λ c κs. search needs)
-    (λ c t e. tree.struct-stands binary binary-reads _ _ _ _ _ t e _ _ (c .before .before .before .before .before .before .loop .inv .0) (stops _ _ (sym (c .before .is-stop .ensures) ∙ c .if1 .taken) (told-as toldField (c .before .before .before .field .given .1) (c .before .before .before .before .before .read-field-begin .ensures))))
+    (λ c κs. search needs)
+    (λ c. search needs)
+    (λ c. search needs)
+    (λ c t e. tree.struct-closes binary binary-reads _ _ _ _ _ (c .before .before .before .before .before .before .before .before .before .before .loop .inv .0) (stops _ _ (sym (c .before .before .before .before .before .is-stop .ensures) ∙ c .before .before .before .before .if1 .taken) (told-as toldField (c .before .before .before .before .before .before .before .field .given .1) (c .before .before .before .before .before .before .before .before .before .read-field-begin .ensures))) (c .before .before .before .before .before .before .before .before .before .before .loop .inv .1) t e (told-as toldDepth (c .before .end .given .1) (c .before .before .before .read-struct-end .ensures)))
+    (λ c t e. tree.struct-stays-open binary binary-reads _ _ _ _ _ (c .before .before .before .before .before .before .before .before .before .before .loop .inv .0) (stops _ _ (sym (c .before .before .before .before .before .is-stop .ensures) ∙ c .before .before .before .before .if1 .taken) (told-as toldField (c .before .before .before .before .before .before .before .field .given .1) (c .before .before .before .before .before .before .before .before .before .read-field-begin .ensures))) (c .before .before .before .before .before .before .before .before .before .before .loop .inv .1) (told-as toldDepth (c .before .late .given .1) (c .before .before .before .read-struct-end .ensures)))
     (λ c. omega (arith, c .before .before .before .before .before .before .loop .inv .0 .deep))
     (λ c κs. (omega (arith, c .before .before .before .before .before .before .before .before .before .before .before .before .pre .0, c .before .before .before .before .before .before .loop .inv .0 .deep), tt))
     (λ c. search needs)

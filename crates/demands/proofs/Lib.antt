@@ -1,0 +1,3 @@
+pub mod Widths
+pub mod Demands
+pub mod Instances
