@@ -12,9 +12,9 @@ use Rattle.codes.specs.Codes.{typeByte, isStop}
 use Rattle.codes.specs.Shapes.{shapeOf}
 use Rattle.codes.specs.declared.TType.{TType}
 use Rattle.codes.specs.declared.TType.the-variants as T
+use Rattle.codes.proofs.Least.{fixed-least}
 use Rattle.codes.specs.declared.shape.Shape.{Shape}
 use Rattle.codes.specs.declared.shape.Shape.the-variants as Sh
-use Rattle.config.specs.Limits.{Roomier}
 use Rattle.config.specs.declared.configuration.TConfiguration.{TConfiguration}
 use Rattle.number.proofs.Widths.{Octets, length-bytesOf}
 use Rattle.text.specs.declared.Span.{Span}
@@ -24,7 +24,7 @@ use Rattle.read.specs.declared.field.TFieldIdentifier.{TFieldIdentifier}
 use Rattle.read.specs.Headers.{fieldAt, listAt, mapAt}
 use Rattle.read.specs.Layouts.{fieldLayout, listLayout, mapLayout}
 use Rattle.tree.specs.Part.{Part}
-use Rattle.tree.specs.Room.{Unnamed}
+use Rattle.tree.specs.Room.{Roomier, Unnamed}
 use Rattle.tree.specs.Coding.{leaf, Items, Paired, Heading, stop, going}
 use Rattle.tree.proofs.Parts.{part-is}
 use Rattle.tree.proofs.Heads.{clash, within-part}
@@ -187,24 +187,6 @@ binary-places =
     shape c Sh.Pairs s at = here-later 12 at
     shape c Sh.Unfit s at = here-later 12 at
 
--- a type of fixed bytes has some
-fixed-some : (t : TType) (w : ℕ) → shapeOf t ≡ Sh.Fixed w → 0 < w
-fixed-some T.Stop w h = clash (cc)
-fixed-some T.Void w h = clash (cc)
-fixed-some T.Bool w h = let e : 1 ≡ w = cc in omega arith
-fixed-some T.I08 w h = let e : 1 ≡ w = cc in omega arith
-fixed-some T.Double w h = let e : 8 ≡ w = cc in omega arith
-fixed-some T.I16 w h = let e : 2 ≡ w = cc in omega arith
-fixed-some T.I32 w h = let e : 4 ≡ w = cc in omega arith
-fixed-some T.I64 w h = let e : 8 ≡ w = cc in omega arith
-fixed-some T.String w h = clash (cc)
-fixed-some T.Utf7 w h = clash (cc)
-fixed-some T.Struct w h = clash (cc)
-fixed-some T.Map w h = clash (cc)
-fixed-some T.Set w h = clash (cc)
-fixed-some T.List w h = clash (cc)
-fixed-some T.Uuid w h = let e : 16 ≡ w = cc in omega arith
-
 -- every value takes a byte at least
 abbrev pub noSlack : TType → ℕ
 noSlack t = 0
@@ -219,7 +201,7 @@ binary-weighs =
     }
   where
     weighs : (c : TConfiguration) (t : TType) (k : Shape) → shapeOf t ≡ k → (b : List ℕ) → seenAs k .bytes c b → 1 ≤ length b + 0
-    weighs c t (Sh.Fixed w) e b h = omega (arith, fixed-some t w e)
+    weighs c t (Sh.Fixed w) e b h = omega (arith, fixed-least t w e .1)
     weighs c t Sh.Text e b h = rw (h .laid) (simp length-append (omega (arith, length-bytesOf 4 (length (h .body)))))
     weighs c t Sh.Fields e b h = absurd h
     weighs c t Sh.Items e b h = absurd h

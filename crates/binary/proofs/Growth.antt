@@ -14,13 +14,12 @@ use Rattle.codes.specs.Codes.{isStop, leastSize}
 use Rattle.codes.specs.declared.TType.{TType}
 use Rattle.wire.proofs.Answers.{passed, went}
 use Rattle.number.specs.Reads.{byteAt, i16At, i32At}
-use Rattle.config.specs.Limits.{Roomier}
 use Rattle.config.specs.declared.configuration.TConfiguration.{TConfiguration}
 use Rattle.text.specs.Texts.{sizeAt, sizedAt, bytesAt, limitedAt}
 use Rattle.text.proofs.Texts.{limited-is}
 use Rattle.text.specs.declared.Body.the-variants as Body-of
 use Rattle.read.specs.Headers.{typeAt, field, fieldAt, countAt, listAt, mapAt}
-use Rattle.tree.specs.Room.{Unnamed}
+use Rattle.tree.specs.Room.{Roomier, Unnamed}
 use Rattle.tree.proofs.Heads.{number-is}
 use Rattle.tree.proofs.Growth.{Grows, grows-same, grows-limit, grows-then, within-grows, number-grows}
 use Rattle.binary.proofs.Heads.{type-is}

@@ -55,10 +55,3 @@ abbrev pub Raised : Limit → Limit → Type 0
 Raised old Absent = Unit
 Raised Absent (AtMost new) = ⊥
 Raised (AtMost old) (AtMost new) = old ≤ new
-
--- a record that leaves a skip at least as much room: each limit was kept, raised or removed. The frame limit is no skip's
-pub record Roomier (old new : TConfiguration) : Type 0 where
-  pub message : Raised (old .«max_message_size») (new .«max_message_size»)
-  pub depth : Raised (old .«max_recursion_depth») (new .«max_recursion_depth»)
-  pub container : Raised (old .«max_container_size») (new .«max_container_size»)
-  pub string : Raised (old .«max_string_size») (new .«max_string_size»)

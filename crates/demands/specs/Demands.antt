@@ -21,7 +21,7 @@ use Rattle.codes.specs.Codes.{asRead, isStop, leastSize}
 use Rattle.codes.specs.declared.TMessageType.{TMessageType}
 use Rattle.codes.specs.declared.TType.{TType}
 use Rattle.codes.specs.declared.TType.the-variants as Ty
-use Rattle.config.specs.Limits.{above, Roomier, toldBuilt}
+use Rattle.config.specs.Limits.{above, toldBuilt}
 use Rattle.config.specs.declared.configuration.TConfiguration.{TConfiguration}
 use Rattle.config.specs.declared.limit.Limit.{Limit}
 use Rattle.nesting.specs.Structs.{toldDepth}
@@ -40,7 +40,7 @@ use Rattle.message.specs.Messages.{message, messageAt}
 use Rattle.message.specs.Told.{toldMessage, toldMessageType}
 use Rattle.tree.specs.Answers.{ended, cut-off, StandsHere, RefusedHere}
 use Rattle.tree.specs.Coding.{leaf}
-use Rattle.tree.specs.Room.{Unnamed}
+use Rattle.tree.specs.Room.{Roomier, Unnamed}
 use Rattle.tree.specs.Sizes.{SizeFits}
 use Rattle.binary.specs.Binary.{binary}
 use Rattle.leaf.specs.Told.{toldWalked}

@@ -5,10 +5,9 @@ use mathlib.Core.Path.{_≡_}
 use mathlib.Core.List.{List, _++_}
 use lib.ListN.{length}
 use Rattle.codes.specs.declared.TType.{TType}
-use Rattle.config.specs.Limits.{Roomier}
 use Rattle.config.specs.declared.configuration.TConfiguration.{TConfiguration}
 use Rattle.tree.specs.Answers.{ended, cut-off}
-use Rattle.tree.specs.Room.{Unnamed}
+use Rattle.tree.specs.Room.{Roomier, Unnamed}
 use Rattle.tree.proofs.Demands as demands
 use Rattle.binary.specs.Binary.{binary}
 use Rattle.binary.proofs.Binary.{binary-reads, binary-room, binary-raises}

@@ -5,11 +5,10 @@ use mathlib.Core.Logic.{_↔_}
 use mathlib.Core.List.{List, _++_}
 use lib.ListN.{length, length-append}
 use native.Mathlib.Omega.{arith}
-use Rattle.config.specs.Limits.{Roomier}
 use Rattle.config.specs.declared.configuration.TConfiguration.{TConfiguration}
 use Rattle.tree.specs.Coding.{Coding}
 use Rattle.tree.specs.Answers.{Outcome, ended, cut-off, Stands, StandsHere, IsCut, Answers, Barred, beyond, structs, depth, RefusedHere, at-entry, in-value, SkipAnswers}
-use Rattle.tree.specs.Room.{Unnamed}
+use Rattle.tree.specs.Room.{Roomier, Unnamed}
 use Rattle.tree.proofs.Heads.{clash}
 use Rattle.tree.proofs.Laws as laws
 use Rattle.tree.proofs.Only.{only}

@@ -13,12 +13,12 @@ use borrow.Author.Tests.{le-ltb, ltb-false, eq-eqb}
 use Rattle.wire.specs.Answer.{Answer, gives, refused, refuseIf, andThen, mapped, within, itemAt}
 use Rattle.wire.proofs.Within.{inside}
 use Rattle.number.specs.Reads.{numberAt}
-use Rattle.config.specs.Limits.{above, reached, Raised, Roomier}
+use Rattle.config.specs.Limits.{above, reached, Raised}
 use Rattle.config.specs.declared.limit.Limit.{Limit}
 use Rattle.config.specs.declared.configuration.TConfiguration.{TConfiguration}
 use Rattle.config.proofs.Room.{still-within, still-below, reached-later}
 use Rattle.nesting.specs.Structs.{structBeginAt}
-use Rattle.tree.specs.Room.{Unnamed}
+use Rattle.tree.specs.Room.{Roomier, Unnamed}
 use Rattle.tree.proofs.Heads.{clash}
 
 pub record Grows {A : Type 0} (K : ℕ → Type 0) (m m' : Answer A) : Type 0 where

@@ -7,11 +7,10 @@ use lib.ListN.{length}
 use native.Mathlib.Omega.{arith}
 use borrow.Author.Tests.{eqb-false, ne-eqb}
 use lib.Dec.{eqb}
-use Rattle.config.specs.Limits.{Roomier}
 use Rattle.config.specs.declared.configuration.TConfiguration.{TConfiguration}
 use Rattle.config.proofs.Room.{still-within, still-below}
 use Rattle.tree.specs.Sizes.{LengthFits, SizeFits}
-use Rattle.tree.specs.Room.{Unnamed}
+use Rattle.tree.specs.Room.{Roomier, Unnamed}
 use Rattle.tree.proofs.Parts.{part-longer}
 use Rattle.tree.proofs.Growth.{Grows, grows-if, grows-mapped, struct-grows}
 use Rattle.tree.specs.Coding.{View, leaf, fields, items, pairs as pairs-view, Coding}
