@@ -31,6 +31,12 @@ typedef char turmyshge_size_has_64_bits[sizeof(size_t) == 8 ? 1 : -1];
 #define TURMYSHGE_DEFAULT_DEPTH 64
 #define TURMYSHGE_GREATEST_DEPTH 127
 
+/*
+ * Bytes of stack that suffice for a call of any depth. It is measured and not proved, by examples/c/stack.c: in the
+ * archive for x86-64 a call takes 288 bytes a level and 36,904 for all 127; compiled for aarch64, 240 and 30,808.
+ */
+#define TURMYSHGE_STACK 65536
+
 /* Where a limit is asked for: no limit. No text, container or message is long enough to tell it from the number. */
 #define TURMYSHGE_NO_LIMIT SIZE_MAX
 

@@ -275,12 +275,9 @@ static void refused(void)
     ask("list of one Stop", BODY("\0\0\0\0\x01"), 0, 64, TURMYSHGE_LIST, TURMYSHGE_WRONG_TYPE, 5, 2);
 }
 
-/* Inside open structs, and under limits of the caller's own. */
-static void within(void)
+/* Inside open structs. */
+static void inside(void)
 {
-    const struct start list = {0, 64, TURMYSHGE_LIST};
-    const struct start map = {0, 64, TURMYSHGE_MAP};
-    const struct start text = {0, 64, TURMYSHGE_STRING};
     const struct start structs = {0, 127, TURMYSHGE_STRUCT};
     struct within in = by_default;
     uint8_t nested[ROOM];
@@ -300,28 +297,39 @@ static void within(void)
                TURMYSHGE_START_BEYOND, 2, 0);
 
     in = unlimited;
-    ask_within("unknown type", BODY("\x02"), (struct start){1, 0, 0x05}, in, TURMYSHGE_UNKNOWN_TYPE, 1, 0);
     length = nested_structs(nested, 127);
     ask_within("127 structs, no limits", nested, length, structs, in, TURMYSHGE_ACCEPTED, 505, 127);
     in.struct_depth = 65534;
     ask_within("127 structs inside 65,534", nested, length, structs, in, TURMYSHGE_STRUCT_DEPTH, 3, 2);
-    ask_within("text of 2,147,483,647 bytes", BODY("\x7f\xff\xff\xff"), text, in, TURMYSHGE_SHORT_INPUT, 4, 1);
+}
 
+/* Under limits of the caller's own. */
+static void limited(void)
+{
+    const struct start list = {0, 64, TURMYSHGE_LIST};
+    const struct start map = {0, 64, TURMYSHGE_MAP};
+    const struct start text = {0, 64, TURMYSHGE_STRING};
+    struct within in = unlimited;
+
+    ask_within("unknown type", BODY("\x02"), (struct start){1, 0, 0x05}, in, TURMYSHGE_UNKNOWN_TYPE, 1, 0);
+    ask_within("text of 2,147,483,647 bytes", BODY("\x7f\xff\xff\xff"), text, in, TURMYSHGE_SHORT_INPUT, 4, 1);
     in.string = 1;
     ask_within("text of 1 byte at its limit", BODY("\0\0\0\x01k"), text, in, TURMYSHGE_ACCEPTED, 5, 1);
     ask_within("text of 2 bytes above it", BODY("\0\0\0\x02kk"), text, in, TURMYSHGE_STRING_LIMIT, 0, 1);
+    in = unlimited;
     in.container = 1;
     ask_within("list of 1 at its limit", BODY("\x03\0\0\0\x01\x05"), list, in, TURMYSHGE_ACCEPTED, 6, 2);
     ask_within("list of 2 above it", BODY("\x03\0\0\0\x02\x05\x06"), list, in, TURMYSHGE_CONTAINER_LIMIT, 1, 1);
     ask_within("map of 2 above it", BODY("\x03\x03\0\0\0\x02"), map, in, TURMYSHGE_CONTAINER_LIMIT, 2, 1);
-    in.container = TURMYSHGE_NO_LIMIT;
+    in = unlimited;
     in.message = 2;
     ask_within("list of 2 bytes at the limit", BODY("\x03\0\0\0\x02\x05\x06"), list, in, TURMYSHGE_ACCEPTED, 7, 3);
-    ask_within("list of 3 bytes above it", BODY("\x03\0\0\0\x03\x05\x06\x07"), list, in, TURMYSHGE_MESSAGE_LIMIT, 1,
-               1);
+    ask_within("list of 3 bytes above it", BODY("\x03\0\0\0\x03\x05\x06\x07"), list, in, TURMYSHGE_MESSAGE_LIMIT,
+               1, 1);
     in = unlimited;
     in.structs = 0;
-    ask_within("an empty struct where none may be", BODY("\0"), structs, in, TURMYSHGE_STRUCT_DEPTH, 0, 1);
+    ask_within("a struct where none may be", BODY("\0"), (struct start){0, 64, TURMYSHGE_STRUCT}, in,
+               TURMYSHGE_STRUCT_DEPTH, 0, 1);
 }
 
 int main(void)
@@ -337,7 +345,8 @@ int main(void)
     returns();
     accepted();
     refused();
-    within();
+    inside();
+    limited();
     for (i = 0; i < sizeof numbers / sizeof numbers[0]; i++)
         refusals |= UINT32_C(1) << numbers[i];
     judge("every refusal that the header names was given, and no other", refusals_given == refusals);
