@@ -1,16 +1,34 @@
 //! Finds the port's archives and links them.
 //!
-//! They stand in the folder that `TURMYSHGE_ARCHIVE_DIR` names, or else in `target/staticlib` of the
-//! repository, where `rt staticlib host` writes them.
+//! They stand in the folder that `TURMYSHGE_ARCHIVE_DIR` names, or else in `target/staticlib` of the repository, where
+//! `rt staticlib host` writes them. A relative folder is meant from where cargo is called, by the caller's `PWD`, as
+//! cargo itself runs this in the package's folder; where no archive is there, it is meant from the package's folder.
 
 use std::env;
 use std::path::{Path, PathBuf};
 
+fn package() -> PathBuf {
+    PathBuf::from(env::var_os("CARGO_MANIFEST_DIR").expect("cargo sets it"))
+}
+
+/// The folder as an absolute one: a path that is absolute already stays as it is where it is joined to another.
 fn archive_folder() -> PathBuf {
-    match env::var_os("TURMYSHGE_ARCHIVE_DIR") {
-        Some(folder) => PathBuf::from(folder),
-        None => Path::new(&env::var_os("CARGO_MANIFEST_DIR").expect("cargo sets it"))
-            .join("../target/staticlib"),
+    let Some(named) = env::var_os("TURMYSHGE_ARCHIVE_DIR") else {
+        return package().join("../target/staticlib");
+    };
+    if Path::new(&named).is_relative() {
+        println!("cargo:rerun-if-env-changed=PWD");
+    }
+    let called_from = env::var_os("PWD").map_or_else(package, PathBuf::from);
+    let folder = called_from.join(&named);
+    if folder.join("libhost.a").is_file() {
+        return folder;
+    }
+    let in_package = package().join(&named);
+    if in_package.join("libhost.a").is_file() {
+        in_package
+    } else {
+        folder
     }
 }
 

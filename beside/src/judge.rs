@@ -3,7 +3,8 @@
 mod reports;
 mod series;
 
-use turmyshge::steps::{Answer, ReadCall, ReadStep, TType, WriteCall};
+use turmyshge::steps::{Answer, ReadCall, ReadStep, WriteCall};
+use turmyshge::{Skip, TType};
 
 use crate::known::{self, Known};
 use crate::port::Port;
@@ -147,21 +148,23 @@ impl Visitor for Judge<'_> {
         }
     }
 
-    fn skip(&mut self, bytes: &[u8], place: usize, depth: usize, type_byte: u8) {
+    fn skip(&mut self, bytes: &[u8], place: usize, type_byte: u8, how: &Skip) {
         let kind = TType::from_byte(type_byte);
         let call = ReadCall {
-            depth,
-            kind: kind.unwrap_or(TType::Stop),
-            ..ReadCall::new(ReadStep::Skip, bytes, place)
+            depth: how.depth,
+            struct_depth: how.struct_depth,
+            limits: how.limits,
+            ..ReadCall::new(ReadStep::Skip, bytes, place).of(kind.unwrap_or(TType::Stop))
         };
-        let in_domain = kind.is_some() || place > bytes.len() || depth > 127;
+        let beyond = place > bytes.len() || how.depth > 127 || how.struct_depth > 65_535;
+        let in_domain = kind.is_some() || beyond;
         let theirs = if in_domain {
             published::read(&call)
         } else {
             Theirs::NoCall
         };
         for port in self.ports {
-            let Some(ours) = port.skip(bytes, place, depth, type_byte) else {
+            let Some(ours) = port.skip(bytes, place, type_byte, how) else {
                 continue;
             };
             self.tally.comparisons += 1;

@@ -5,8 +5,8 @@
 
 use std::collections::BTreeMap;
 
-use turmyshge::steps::{Answer, Limits, ReadCall, ReadStep, WriteCall, WriteStep};
-use turmyshge::Kind;
+use turmyshge::steps::{Answer, Limits, ReadCall, ReadStep, StepType, WriteCall, WriteStep};
+use turmyshge::{Kind, Skip};
 
 use crate::hex;
 use crate::plain::Plain;
@@ -70,7 +70,7 @@ impl Visitor for Keeper {
             return;
         }
         let asked = match call.step {
-            ReadStep::Skip | ReadStep::Scalar => call.kind as u8,
+            ReadStep::Skip | ReadStep::Scalar => index(call.kind),
             ReadStep::MessageBegin => u8::from(call.strict),
             // judged by its text: each range of first bytes is kept
             ReadStep::String if matches!(answer.refusal, None | Some(Kind::NotUtf8)) => {
@@ -101,7 +101,7 @@ impl Visitor for Keeper {
             Some(_) => &[],
         };
         let asked = match call.step {
-            WriteStep::FieldBegin | WriteStep::ListBegin | WriteStep::MapBegin => call.kind,
+            WriteStep::FieldBegin | WriteStep::ListBegin | WriteStep::MapBegin => index(call.kind),
             WriteStep::MessageBegin => u8::from(call.strict),
             _ => 0,
         };
@@ -109,12 +109,12 @@ impl Visitor for Keeper {
         self.keep(way, || write_line(call, length, &answer, written));
     }
 
-    fn skip(&mut self, _: &[u8], _: usize, _: usize, _: u8) {}
+    fn skip(&mut self, _: &[u8], _: usize, _: u8, _: &Skip) {}
 }
 
 /// `r REFUSAL PLACE A B C D STEP STRICT KIND DEPTH STRUCT_DEPTH MESSAGE FRAME STRUCTS CONTAINER STRING PLACE BYTES`
 ///
-/// All numbers and bytes are hex, an absent limit is the greatest number, no bytes are `-`.
+/// All numbers and bytes are hex, a type is its index in the list of all, an absent limit is the greatest number, no bytes are `-`.
 fn read_line(call: &ReadCall<'_>, answer: &Answer) -> String {
     let Limits {
         message,
@@ -126,7 +126,7 @@ fn read_line(call: &ReadCall<'_>, answer: &Answer) -> String {
     let asked = [
         call.step as usize,
         usize::from(call.strict),
-        call.kind as usize,
+        usize::from(index(call.kind)),
         call.depth,
         call.struct_depth,
         limit(message),
@@ -145,11 +145,15 @@ fn read_line(call: &ReadCall<'_>, answer: &Answer) -> String {
 /// LENGTH is the buffer's, WRITTEN what stands between the write's place and its end; every other byte stays. The 0
 /// makes as many numbers as a read has.
 fn write_line(call: &WriteCall<'_>, length: usize, answer: &Answer, written: &[u8]) -> String {
+    let kind = match call.step {
+        WriteStep::MessageBegin => call.message as u8,
+        _ => index(call.kind),
+    };
     let asked = [
         call.step as usize,
         usize::from(call.strict),
-        usize::from(call.kind),
-        usize::from(call.other),
+        usize::from(kind),
+        usize::from(index(call.other)),
         usize::from(call.absent.bits()),
         call.number as usize,
         call.struct_depth,
@@ -164,6 +168,12 @@ fn write_line(call: &WriteCall<'_>, length: usize, answer: &Answer, written: &[u
         told(answer),
         words(&asked)
     ))
+}
+
+/// A type by its index in the list of all, as the program that replays the list takes it.
+fn index(kind: StepType) -> u8 {
+    let index = StepType::ALL.iter().position(|known| *known == kind);
+    index.expect("every type is listed") as u8
 }
 
 /// The line behind its own length in four digits, the line's end counted: so it can be read without a search.

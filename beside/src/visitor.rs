@@ -1,6 +1,7 @@
 //! What inputs are shown to: a judge that compares, or a keeper that notes the crate's answers down.
 
 use turmyshge::steps::{Answer, ReadCall, WriteCall};
+use turmyshge::Skip;
 
 /// Is shown calls, one after the other.
 pub trait Visitor {
@@ -10,8 +11,8 @@ pub trait Visitor {
     /// A write into a buffer of `length` bytes.
     fn write(&mut self, call: &WriteCall<'_>, length: usize);
 
-    /// A skip by the type's byte, under the default limits.
-    fn skip(&mut self, bytes: &[u8], place: usize, depth: usize, type_byte: u8);
+    /// A skip by the type's byte.
+    fn skip(&mut self, bytes: &[u8], place: usize, type_byte: u8, how: &Skip);
 
     /// Reads by one reader, each from where the one before it ended. The last may be refused, none before it.
     fn reads(&mut self, _calls: &[ReadCall<'_>]) {}

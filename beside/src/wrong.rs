@@ -3,7 +3,7 @@
 use std::sync::atomic::{AtomicU64, Ordering};
 
 use turmyshge::steps::{Answer, ReadCall, ReadStep, WriteCall};
-use turmyshge::Kind;
+use turmyshge::{Kind, Skip};
 
 use crate::inputs::{Amount, Share, SECTIONS};
 use crate::judge::Tally;
@@ -86,7 +86,7 @@ impl Port for Faulty {
         Some(self.spoilt(answer, false))
     }
 
-    fn skip(&self, _: &[u8], _: usize, _: usize, _: u8) -> Option<Answer> {
+    fn skip(&self, _: &[u8], _: usize, _: u8, _: &Skip) -> Option<Answer> {
         None
     }
 }

@@ -1,6 +1,6 @@
 /*
- * Calls thrift_skip on bodies that it accepts and refuses, prints what it answers, and holds each answer against what
- * the rules say. "W" names are the rules' own cases. Exits with 1 where an answer is wrong.
+ * Calls thrift_skip and thrift_skip_within on bodies that they accept and refuse, prints what they answer, and holds
+ * each answer against what the rules say. "W" names are the rules' own cases. Exits with 1 where an answer is wrong.
  */
 #include <stdio.h>
 #include <string.h>
@@ -33,22 +33,43 @@ static int untouched(const uint8_t *bytes, size_t length)
     return 1;
 }
 
-/* One skip. The record is longer than it need be, to see that the call leaves the rest of it alone. */
-static void ask(const char *what, const uint8_t *bytes, size_t length, size_t start, size_t depth, uint8_t type,
-                size_t number, size_t place, size_t count)
-{
-    uint8_t before[ROOM];
-    uint8_t record[TURMYSHGE_RECORD_SIZE + 8];
-    char line[256];
-    uint32_t returned;
-    size_t refusal;
-    int right;
+/* How a skip is asked for: from where, how deep, of which type. */
+struct start {
+    size_t place;
+    size_t depth;
+    uint8_t type;
+};
 
-    if (length > 0)
-        memcpy(before, bytes, length);
-    memset(record, UNTOUCHED, sizeof record);
-    returned = thrift_skip(bytes, length, start, depth, type, record, sizeof record);
-    refusal = turmyshge_refusal(record);
+/* What thrift_skip_within takes besides. */
+struct within {
+    size_t struct_depth;
+    size_t message;
+    size_t structs;
+    size_t container;
+    size_t string;
+};
+
+static const struct within by_default = {0, TURMYSHGE_DEFAULT_MESSAGE, TURMYSHGE_DEFAULT_STRUCTS,
+                                         TURMYSHGE_DEFAULT_CONTAINER, TURMYSHGE_DEFAULT_STRING};
+static const struct within unlimited = {0, TURMYSHGE_NO_LIMIT, TURMYSHGE_NO_LIMIT, TURMYSHGE_NO_LIMIT,
+                                        TURMYSHGE_NO_LIMIT};
+
+static uint32_t skip_within(const uint8_t *bytes, size_t length, struct start at, struct within in, uint8_t *record,
+                            size_t record_length)
+{
+    return thrift_skip_within(bytes, length, at.place, at.depth, at.type, in.struct_depth, in.message, in.structs,
+                              in.container, in.string, record, record_length);
+}
+
+/* Holds a skip's return and record against what they should be, and the bytes after them against what they were. */
+static void hold(const char *what, uint32_t returned, const uint8_t *record, size_t record_length, size_t number,
+                 size_t place, size_t count)
+{
+    char line[256];
+    size_t refusal = turmyshge_refusal(record);
+    int right = returned == TURMYSHGE_ANSWERED && refusal == number && turmyshge_place(record) == place &&
+                turmyshge_count(record) == count;
+
     if (refusal == TURMYSHGE_ACCEPTED) {
         snprintf(line, sizeof line, "%s: end %zu, count %zu", what, turmyshge_end(record), turmyshge_count(record));
     } else {
@@ -57,11 +78,44 @@ static void ask(const char *what, const uint8_t *bytes, size_t length, size_t st
         if (refusal < 32)
             refusals_given |= UINT32_C(1) << refusal;
     }
-    right = returned == TURMYSHGE_ANSWERED && refusal == number && turmyshge_place(record) == place &&
-            turmyshge_count(record) == count;
-    right = right && (length == 0 || memcmp(before, bytes, length) == 0);
-    right = right && untouched(record + TURMYSHGE_RECORD_SIZE, sizeof record - TURMYSHGE_RECORD_SIZE);
+    right = right && untouched(record + TURMYSHGE_RECORD_SIZE, record_length - TURMYSHGE_RECORD_SIZE);
     judge(line, right);
+}
+
+/* One skip under given limits. The record is longer than it need be, to see that the call leaves the rest alone. */
+static void ask_within(const char *what, const uint8_t *bytes, size_t length, struct start at, struct within in,
+                       size_t number, size_t place, size_t count)
+{
+    uint8_t record[TURMYSHGE_RECORD_SIZE + 8];
+    uint32_t returned;
+
+    memset(record, UNTOUCHED, sizeof record);
+    returned = skip_within(bytes, length, at, in, record, sizeof record);
+    hold(what, returned, record, sizeof record, number, place, count);
+}
+
+/* One skip under the default limits, by both functions: the second, told the defaults, answers as the first. */
+static void ask(const char *what, const uint8_t *bytes, size_t length, size_t start, size_t depth, uint8_t type,
+                size_t number, size_t place, size_t count)
+{
+    struct start at = {start, depth, type};
+    uint8_t before[ROOM];
+    uint8_t record[TURMYSHGE_RECORD_SIZE + 8];
+    uint8_t other[sizeof record];
+    uint32_t returned;
+    int same;
+
+    if (length > 0)
+        memcpy(before, bytes, length);
+    memset(record, UNTOUCHED, sizeof record);
+    memset(other, UNTOUCHED, sizeof other);
+    returned = thrift_skip(bytes, length, start, depth, type, record, sizeof record);
+    hold(what, returned, record, sizeof record, number, place, count);
+    same = skip_within(bytes, length, at, by_default, other, sizeof other) == returned;
+    same = same && memcmp(record, other, sizeof record) == 0;
+    same = same && (length == 0 || memcmp(before, bytes, length) == 0);
+    if (!same)
+        judge("   and within the defaults, and of bytes that stay as they were", 0);
 }
 
 static void accepts(const char *what, const uint8_t *bytes, size_t length, size_t start, size_t depth, uint8_t type,
@@ -75,6 +129,17 @@ static void too_short(const char *what, size_t start, size_t depth, uint8_t type
 {
     const uint8_t body[1] = {2};
     uint32_t returned = thrift_skip(body, sizeof body, start, depth, type, record, length);
+    char line[256];
+
+    snprintf(line, sizeof line, "%s: returns %u", what, (unsigned)returned);
+    judge(line, returned == TURMYSHGE_RECORD_TOO_SHORT && untouched(record, length));
+}
+
+/* The same of thrift_skip_within. */
+static void too_short_within(const char *what, struct start at, struct within in, uint8_t *record, size_t length)
+{
+    const uint8_t body[1] = {2};
+    uint32_t returned = skip_within(body, sizeof body, at, in, record, length);
     char line[256];
 
     snprintf(line, sizeof line, "%s: returns %u", what, (unsigned)returned);
@@ -117,6 +182,10 @@ static void returns(void)
     too_short("record of 23 bytes, depth 128", 0, 128, TURMYSHGE_BOOL, record, 23);
     too_short("record of 23 bytes, unknown type", 0, 1, 0x05, record, 23);
     too_short("no record", 0, 1, TURMYSHGE_BOOL, NULL, 0);
+    too_short_within("within: record of 23 bytes", (struct start){0, 1, TURMYSHGE_BOOL}, unlimited, record, 23);
+    too_short_within("within: record of 23 bytes, all else wrong", (struct start){2, 128, 0x05},
+                     (struct within){65536, 0, 0, 0, 0}, record, 23);
+    too_short_within("within: no record", (struct start){0, 1, TURMYSHGE_BOOL}, unlimited, NULL, 0);
     judge("record of 24 bytes: returns 0",
           thrift_skip(BODY("\x02"), 0, 1, TURMYSHGE_BOOL, record, sizeof record) == TURMYSHGE_ANSWERED &&
               turmyshge_end(record) == 1);
@@ -206,12 +275,69 @@ static void refused(void)
     ask("list of one Stop", BODY("\0\0\0\0\x01"), 0, 64, TURMYSHGE_LIST, TURMYSHGE_WRONG_TYPE, 5, 2);
 }
 
+/* Inside open structs. */
+static void inside(void)
+{
+    const struct start structs = {0, 127, TURMYSHGE_STRUCT};
+    struct within in = by_default;
+    uint8_t nested[ROOM];
+    size_t length = nested_structs(nested, 64);
+
+    ask_within("64 structs, none open", nested, length, structs, in, TURMYSHGE_ACCEPTED, 253, 64);
+    in.struct_depth = 1;
+    ask_within("64 structs inside one", nested, length, structs, in, TURMYSHGE_STRUCT_DEPTH, 189, 64);
+    in.struct_depth = 64;
+    ask_within("a struct inside 64", nested, length, structs, in, TURMYSHGE_STRUCT_DEPTH, 0, 1);
+    in.struct_depth = 65536;
+    ask_within("struct depth 65,536", BODY("\x02"), (struct start){1, 64, TURMYSHGE_BOOL}, in,
+               TURMYSHGE_DEPTH_BEYOND, 1, 0);
+    ask_within("struct depth 65,536, unknown type", BODY("\x02"), (struct start){1, 64, 0x05}, in,
+               TURMYSHGE_DEPTH_BEYOND, 1, 0);
+    ask_within("struct depth 65,536, start beyond", BODY("\x02"), (struct start){2, 64, 0x05}, in,
+               TURMYSHGE_START_BEYOND, 2, 0);
+
+    in = unlimited;
+    length = nested_structs(nested, 127);
+    ask_within("127 structs, no limits", nested, length, structs, in, TURMYSHGE_ACCEPTED, 505, 127);
+    in.struct_depth = 65534;
+    ask_within("127 structs inside 65,534", nested, length, structs, in, TURMYSHGE_STRUCT_DEPTH, 3, 2);
+}
+
+/* Under limits of the caller's own. */
+static void limited(void)
+{
+    const struct start list = {0, 64, TURMYSHGE_LIST};
+    const struct start map = {0, 64, TURMYSHGE_MAP};
+    const struct start text = {0, 64, TURMYSHGE_STRING};
+    struct within in = unlimited;
+
+    ask_within("unknown type", BODY("\x02"), (struct start){1, 0, 0x05}, in, TURMYSHGE_UNKNOWN_TYPE, 1, 0);
+    ask_within("text of 2,147,483,647 bytes", BODY("\x7f\xff\xff\xff"), text, in, TURMYSHGE_SHORT_INPUT, 4, 1);
+    in.string = 1;
+    ask_within("text of 1 byte at its limit", BODY("\0\0\0\x01k"), text, in, TURMYSHGE_ACCEPTED, 5, 1);
+    ask_within("text of 2 bytes above it", BODY("\0\0\0\x02kk"), text, in, TURMYSHGE_STRING_LIMIT, 0, 1);
+    in = unlimited;
+    in.container = 1;
+    ask_within("list of 1 at its limit", BODY("\x03\0\0\0\x01\x05"), list, in, TURMYSHGE_ACCEPTED, 6, 2);
+    ask_within("list of 2 above it", BODY("\x03\0\0\0\x02\x05\x06"), list, in, TURMYSHGE_CONTAINER_LIMIT, 1, 1);
+    ask_within("map of 2 above it", BODY("\x03\x03\0\0\0\x02"), map, in, TURMYSHGE_CONTAINER_LIMIT, 2, 1);
+    in = unlimited;
+    in.message = 2;
+    ask_within("list of 2 bytes at the limit", BODY("\x03\0\0\0\x02\x05\x06"), list, in, TURMYSHGE_ACCEPTED, 7, 3);
+    ask_within("list of 3 bytes above it", BODY("\x03\0\0\0\x03\x05\x06\x07"), list, in, TURMYSHGE_MESSAGE_LIMIT,
+               1, 1);
+    in = unlimited;
+    in.structs = 0;
+    ask_within("a struct where none may be", BODY("\0"), (struct start){0, 64, TURMYSHGE_STRUCT}, in,
+               TURMYSHGE_STRUCT_DEPTH, 0, 1);
+}
+
 int main(void)
 {
     static const int numbers[] = {
-        TURMYSHGE_SHORT_INPUT,   TURMYSHGE_START_BEYOND,  TURMYSHGE_UNKNOWN_TYPE, TURMYSHGE_NEGATIVE_SIZE,
-        TURMYSHGE_STRING_LIMIT,  TURMYSHGE_MESSAGE_LIMIT, TURMYSHGE_SKIP_DEPTH,   TURMYSHGE_STRUCT_DEPTH,
-        TURMYSHGE_WRONG_TYPE,    TURMYSHGE_DEPTH_BEYOND,
+        TURMYSHGE_SHORT_INPUT,   TURMYSHGE_START_BEYOND,    TURMYSHGE_UNKNOWN_TYPE,  TURMYSHGE_NEGATIVE_SIZE,
+        TURMYSHGE_STRING_LIMIT,  TURMYSHGE_CONTAINER_LIMIT, TURMYSHGE_MESSAGE_LIMIT, TURMYSHGE_SKIP_DEPTH,
+        TURMYSHGE_STRUCT_DEPTH,  TURMYSHGE_WRONG_TYPE,      TURMYSHGE_DEPTH_BEYOND,
     };
     uint32_t refusals = 0;
     size_t i;
@@ -219,6 +345,8 @@ int main(void)
     returns();
     accepted();
     refused();
+    inside();
+    limited();
     for (i = 0; i < sizeof numbers / sizeof numbers[0]; i++)
         refusals |= UINT32_C(1) << numbers[i];
     judge("every refusal that the header names was given, and no other", refusals_given == refusals);

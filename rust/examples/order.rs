@@ -7,8 +7,17 @@
 use std::error::Error;
 
 use turmyshge::steps::{read_field_begin, read_i64, read_message_begin, read_string};
-use turmyshge::steps::{Limits, TType};
-use turmyshge::{skip, DEFAULT_SKIP_DEPTH};
+use turmyshge::{Limits, Skip, TType};
+
+/// One set of limits for all that is read, the fields that are stepped over too.
+const LIMITS: Limits = Limits::DEFAULT;
+
+/// How an unknown field is stepped over: its value lies inside the order's own struct.
+const UNKNOWN: Skip = Skip {
+    struct_depth: 1,
+    limits: LIMITS,
+    ..Skip::DEFAULT
+};
 
 #[derive(Debug, PartialEq)]
 struct Order<'a> {
@@ -18,7 +27,7 @@ struct Order<'a> {
 
 /// The order that `bytes` are, whole and with nothing after it.
 fn read_order(bytes: &[u8]) -> Result<Order<'_>, Box<dyn Error>> {
-    let (message, mut at) = read_message_begin(bytes, 0, true, Limits::DEFAULT)?;
+    let (message, mut at) = read_message_begin(bytes, 0, true, LIMITS)?;
     if message.name != "order" {
         return Err("not an order".into());
     }
@@ -29,7 +38,7 @@ fn read_order(bytes: &[u8]) -> Result<Order<'_>, Box<dyn Error>> {
         at = match (id, kind) {
             (_, TType::Stop) => break value,
             (1, TType::String) => {
-                let (text, end) = read_string(bytes, value, Limits::DEFAULT)?;
+                let (text, end) = read_string(bytes, value, LIMITS)?;
                 account = Some(text);
                 end
             }
@@ -39,7 +48,7 @@ fn read_order(bytes: &[u8]) -> Result<Order<'_>, Box<dyn Error>> {
                 end
             }
             // Unknown, or known and of another type: the skip says where the next field begins, or that none does.
-            _ => skip(bytes, value, DEFAULT_SKIP_DEPTH, kind.byte())?.end,
+            _ => UNKNOWN.value(bytes, value, kind)?.end,
         };
     };
     if end < bytes.len() {
@@ -79,6 +88,12 @@ fn main() -> Result<(), Box<dyn Error>> {
 mod tests {
     use super::{read_order, Order, ORDER};
 
+    /// The order with field 9 being so many structs, each the first field of the one around it.
+    fn with_structs(structs: usize) -> Vec<u8> {
+        let nested = [[0x0c, 0, 1].repeat(structs - 1), vec![0; structs]].concat();
+        [&ORDER[..26], &[0x0c, 0, 9], &nested, &ORDER[47..]].concat()
+    }
+
     fn said(bytes: &[u8]) -> String {
         read_order(bytes).unwrap_err().to_string()
     }
@@ -112,5 +127,16 @@ mod tests {
             damaged[44] = size;
             assert!(read_order(&damaged).is_err(), "size {size}");
         }
+    }
+
+    /// The order's own struct is open around them, so the 64th would be the 65th. A generated reader of the published
+    /// crate stands there too, and refuses it as its struct depth.
+    #[test]
+    fn the_64th_struct_in_an_unknown_field_is_refused() {
+        assert_eq!(read_order(&with_structs(63)).unwrap().quantity, 25);
+        assert_eq!(
+            said(&with_structs(64)),
+            "refusal 11: struct depth at its limit, at byte 218 (where the struct would begin), 64 values begun"
+        );
     }
 }

@@ -8,18 +8,21 @@
 //! [`skip`] passes one value of a type that the caller does not know:
 //!
 //! ```
-//! use turmyshge::{skip, DEFAULT_SKIP_DEPTH};
+//! use turmyshge::{skip, TType, DEFAULT_SKIP_DEPTH};
 //!
 //! // a struct: field 1 is the i32 9, then Stop
 //! let bytes = [0x08, 0, 1, 0, 0, 0, 9, 0];
-//! let passed = skip(&bytes, 0, DEFAULT_SKIP_DEPTH, 0x0c).unwrap();
+//! let passed = skip(&bytes, 0, DEFAULT_SKIP_DEPTH, TType::Struct).unwrap();
 //! assert_eq!((passed.end, passed.count), (8, 2));
 //!
 //! // a text of four bytes with one missing
-//! let refused = skip(&[0, 0, 0, 4, b'a', b'b', b'c'], 0, DEFAULT_SKIP_DEPTH, 0x0b).unwrap_err();
+//! let text = [0, 0, 0, 4, b'a', b'b', b'c'];
+//! let refused = skip(&text, 0, DEFAULT_SKIP_DEPTH, TType::String).unwrap_err();
 //! assert_eq!((refused.kind.number(), refused.place), (1, 4));
 //! println!("{refused}");
 //! ```
+//!
+//! [`Skip`] does it under limits of the caller's own and inside structs that are open already.
 //!
 //! [`steps`] has the words in which single reads and writes are asked for. With the feature `steps` it also has the
 //! calls themselves, over a second archive (`rt staticlib probe`).
@@ -28,9 +31,13 @@
 
 #[allow(unsafe_code)]
 mod ffi;
+mod limits;
 mod refusal;
 mod skip;
 pub mod steps;
+mod ttype;
 
+pub use limits::Limits;
 pub use refusal::Kind;
-pub use skip::{skip, Refusal, Skipped, DEFAULT_SKIP_DEPTH};
+pub use skip::{skip, skip_by_byte, Refusal, Skip, Skipped, DEFAULT_SKIP_DEPTH};
+pub use ttype::TType;

@@ -2,9 +2,9 @@
 //! 16 is left out: it takes a text of 2,147,483,648 bytes.
 #![cfg(feature = "steps")]
 
-use turmyshge::steps::{self, Limits, MessageType, ReadCall, ReadStep, StepRefusal, TType};
-use turmyshge::steps::{Absent, WriteCall, WriteStep};
-use turmyshge::Kind;
+use turmyshge::steps::{self, Absent, MessageType, ReadCall, ReadStep, StepRefusal, StepType};
+use turmyshge::steps::{WriteCall, WriteStep};
+use turmyshge::{Kind, Limits, TType};
 
 fn refused<T>(kind: Kind, place: usize) -> Result<T, StepRefusal> {
     Err(StepRefusal { kind, place })
@@ -45,6 +45,49 @@ fn headers_read_back() {
     assert_eq!(steps::read_field_begin(&out, 0), Ok(((TType::Map, 9), at)));
     let map = steps::read_map_begin(&out, at, Limits::DEFAULT);
     assert_eq!(map, Ok(((TType::String, TType::Uuid, 3), end)));
+}
+
+/// A type goes to the archive by a number that is not its byte: each comes out as its byte, and comes back as itself.
+#[test]
+fn every_type_is_written_as_its_byte() {
+    for kind in StepType::ALL {
+        let mut out = [0xee; 6];
+        let call = WriteCall {
+            kind,
+            other: kind,
+            ..WriteCall::new(WriteStep::MapBegin, 0)
+        };
+        assert_eq!(steps::write(&call, &mut out).unwrap().refusal, None);
+        assert_eq!(out, [kind.byte(), kind.byte(), 0, 0, 0, 0]);
+        let back = TType::from_byte(kind.byte()).unwrap();
+        let map = steps::read_map_begin(&out, 0, Limits::DEFAULT);
+        assert_eq!(map, Ok(((back, back, 0), 6)));
+    }
+    for message in MessageType::ALL {
+        let mut out = [0; 12];
+        steps::write_message_begin(&mut out, 0, true, "", message, 0).unwrap();
+        assert_eq!(out[3], message as u8);
+    }
+}
+
+/// A type is asked for by what it is: the skip and the scalar read of each pass as many bytes as it takes.
+#[test]
+fn every_type_is_asked_for_as_itself() {
+    for kind in TType::ALL {
+        let call = ReadCall::new(ReadStep::Skip, &[0; 16], 0).of(kind);
+        let by_byte = turmyshge::skip(&[0; 16], 0, 64, kind);
+        let end = steps::read(&call).into_result().ok().map(|(_, end)| end);
+        assert_eq!(end, by_byte.ok().map(|passed| passed.end));
+        let scalar = steps::read(&ReadCall {
+            step: ReadStep::Scalar,
+            ..call
+        });
+        if let Ok((values, _)) = scalar.into_result() {
+            assert_eq!(values[0], u64::from(kind.byte()));
+        }
+    }
+    let utf7 = ReadCall::new(ReadStep::Skip, &[0; 16], 0).of(StepType::Utf7);
+    assert_eq!(steps::read(&utf7).refusal, Some(Kind::WrongType));
 }
 
 #[test]

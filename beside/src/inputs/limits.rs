@@ -113,8 +113,7 @@ fn show_message_limit(visitor: &mut dyn Visitor, message: Option<usize>) {
 /// Lists, sets and maps of every type and pair of types.
 fn show_headers(visitor: &mut dyn Visitor, limits: Limits, size: u32) {
     let size = size.to_be_bytes();
-    let wired = TType::ALL.into_iter().filter(|kind| *kind != TType::Utf7);
-    for kind in wired.clone() {
+    for kind in TType::ALL {
         let list = [&[kind.byte()][..], &size].concat();
         for (step, kind) in [
             (ReadStep::ListBegin, TType::List),
@@ -124,7 +123,7 @@ fn show_headers(visitor: &mut dyn Visitor, limits: Limits, size: u32) {
         ] {
             visitor.read(&ReadCall::new(step, &list, 0).under(limits).of(kind));
         }
-        for value in wired.clone() {
+        for value in TType::ALL {
             let map = [&[kind.byte(), value.byte()][..], &size].concat();
             for step in [ReadStep::MapBegin, ReadStep::Skip] {
                 visitor.read(&ReadCall::new(step, &map, 0).under(limits).of(TType::Map));

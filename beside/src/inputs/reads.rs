@@ -1,6 +1,7 @@
 //! The reads that every string of bytes is tried with.
 
-use turmyshge::steps::{ReadCall, ReadStep, TType};
+use turmyshge::steps::{ReadCall, ReadStep, StepType};
+use turmyshge::TType;
 
 /// The skip depth under which short strings are tried: two levels of nesting, and their end.
 const SHALLOW: usize = 3;
@@ -20,7 +21,7 @@ pub fn all() -> Vec<ReadCall<'static>> {
                 calls.extend([true, false].map(|strict| ReadCall { strict, ..call }));
             }
             ReadStep::Skip | ReadStep::Scalar => {
-                calls.extend(TType::ALL.map(|kind| call.of(kind)));
+                calls.extend(StepType::ALL.map(|kind| call.of(kind)));
             }
             _ => calls.push(call),
         }
@@ -29,8 +30,8 @@ pub fn all() -> Vec<ReadCall<'static>> {
 }
 
 /// The skip of every type at a depth.
-pub fn skips(depth: usize) -> [ReadCall<'static>; TType::ALL.len()] {
-    TType::ALL.map(|kind| ReadCall {
+pub fn skips(depth: usize) -> [ReadCall<'static>; StepType::ALL.len()] {
+    StepType::ALL.map(|kind| ReadCall {
         depth,
         ..ReadCall::new(ReadStep::Skip, &[], 0).of(kind)
     })
@@ -57,8 +58,8 @@ pub fn by_bytes() -> (Vec<ReadCall<'static>>, Vec<ReadCall<'static>>) {
 
 fn looks_at_bytes(call: &ReadCall<'_>) -> bool {
     match call.step {
-        ReadStep::Skip => !matches!(call.kind, TType::Stop | TType::Void | TType::Utf7),
-        ReadStep::Scalar => SCALARS.contains(&call.kind),
+        ReadStep::Skip => !matches!(call.kind.wire(), None | Some(TType::Stop | TType::Void)),
+        ReadStep::Scalar => SCALARS.iter().any(|kind| call.kind == *kind),
         ReadStep::StructBegin | ReadStep::StructEnd | ReadStep::Limits => false,
         step => !ENDS.contains(&step),
     }

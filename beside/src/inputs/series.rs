@@ -1,6 +1,7 @@
 //! One reader over a whole message, and one writer of it, each from its first call to its first refusal.
 
-use turmyshge::steps::{Limits, ReadCall, ReadStep, TType, WriteCall, WriteStep};
+use turmyshge::steps::{MessageType, ReadCall, ReadStep, WriteCall, WriteStep};
+use turmyshge::{Limits, TType};
 
 use super::damage::{damaged, Damage};
 use super::tree::{grow, Growth};
@@ -37,7 +38,7 @@ fn show_message(visitor: &mut dyn Visitor, rng: &mut Rng) {
     let strict = rng.once_in(2);
     let begin = WriteCall {
         text: b"placeOrder",
-        kind: 1 + rng.below(4) as u8,
+        message: rng.pick(&MessageType::ALL),
         number: rng.bits() & 0xffff_ffff,
         ..WriteCall::new(WriteStep::MessageBegin, 0)
     };

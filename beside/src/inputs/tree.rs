@@ -1,6 +1,7 @@
 //! Random values, and the writes that write them.
 
-use turmyshge::steps::{TType, WriteCall, WriteStep};
+use turmyshge::steps::{WriteCall, WriteStep};
+use turmyshge::TType;
 
 use crate::rng::Rng;
 
@@ -57,8 +58,8 @@ impl Write {
     /// The call that makes it at `place`.
     pub fn call(&self, place: usize) -> WriteCall<'_> {
         WriteCall {
-            kind: self.kinds[0] as u8,
-            other: self.kinds[1] as u8,
+            kind: self.kinds[0].into(),
+            other: self.kinds[1].into(),
             number: self.number,
             text: &self.text,
             structs: None,

@@ -1,6 +1,7 @@
 //! Random trees and messages: written by both sides, then read and skipped whole and damaged.
 
-use turmyshge::steps::{Limits, ReadCall, ReadStep, TType, WriteCall, WriteStep};
+use turmyshge::steps::{MessageType, ReadCall, ReadStep, StepType, WriteCall, WriteStep};
+use turmyshge::{Limits, TType};
 
 use super::damage::{damaged, Damage};
 use super::tree::{grow, Growth, Tree};
@@ -130,7 +131,7 @@ fn show_skips(visitor: &mut dyn Visitor, tree: &Tree, bytes: &[u8], rng: &mut Rn
     visitor.read(&call);
     // somewhere inside, as any other type
     let place = rng.below(bytes.len() + 1);
-    let kind = rng.pick(&TType::ALL);
+    let kind = rng.pick(&StepType::ALL);
     visitor.read(&ReadCall::new(ReadStep::Skip, bytes, place).of(kind));
 }
 
@@ -190,7 +191,7 @@ fn show_message(visitor: &mut dyn Visitor, tree: &Tree, bytes: &[u8], rng: &mut 
     let call = WriteCall {
         text: &name,
         strict,
-        kind: 1 + rng.below(4) as u8,
+        message: rng.pick(&MessageType::ALL),
         number: rng.bits() & 0xffff_ffff,
         ..WriteCall::new(WriteStep::MessageBegin, 0)
     };

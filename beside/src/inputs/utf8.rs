@@ -1,6 +1,7 @@
 //! Texts: all of 1, 2 and 3 bytes, and those of 4 whose bytes stand at the edges of RFC 3629's ranges.
 
 use turmyshge::steps::{ReadCall, ReadStep, WriteCall, WriteStep};
+use turmyshge::TType;
 
 use super::short::strings;
 use super::Share;
@@ -57,7 +58,7 @@ fn show_elsewhere(visitor: &mut dyn Visitor, text: &[u8]) {
     for step in [WriteStep::String, WriteStep::MessageBegin] {
         let call = WriteCall {
             text,
-            kind: 1,
+            kind: TType::Void.into(),
             ..WriteCall::new(step, 1)
         };
         visitor.write(&call, 32);

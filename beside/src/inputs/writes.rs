@@ -1,6 +1,7 @@
 //! Every write, into buffers with too little, just enough and more room.
 
-use turmyshge::steps::{Absent, TType, WriteCall, WriteStep};
+use turmyshge::steps::{Absent, MessageType, StepType, WriteCall, WriteStep};
+use turmyshge::TType;
 
 use super::numbers::NUMBERS;
 use super::Share;
@@ -45,7 +46,7 @@ fn show_numbers(visitor: &mut dyn Visitor, step: WriteStep) {
         return;
     }
     for number in NUMBERS {
-        for kind in 0..TType::ALL.len() as u8 {
+        for (index, kind) in StepType::ALL.into_iter().enumerate() {
             for first in [false, true] {
                 let absent = Absent {
                     first: first && step == WriteStep::FieldBegin,
@@ -53,7 +54,7 @@ fn show_numbers(visitor: &mut dyn Visitor, step: WriteStep) {
                 };
                 let call = WriteCall {
                     kind,
-                    other: 14 - kind,
+                    other: StepType::ALL[14 - index],
                     number,
                     absent,
                     ..WriteCall::new(step, 0)
@@ -78,12 +79,14 @@ fn show_texts(visitor: &mut dyn Visitor) {
     ];
     for text in texts {
         for strict in [false, true] {
-            for kind in 1..=4 {
+            for message in MessageType::ALL {
                 for step in [WriteStep::MessageBegin, WriteStep::String, WriteStep::Bytes] {
                     let call = WriteCall {
                         text,
                         strict,
-                        kind,
+                        message,
+                        // no type is asked for; whichever is told is not looked at
+                        kind: StepType::ALL[message as usize],
                         number: 0xfffe_fdfc,
                         ..WriteCall::new(step, 0)
                     };
@@ -108,8 +111,8 @@ fn show_maps(visitor: &mut dyn Visitor) {
     for (first, second) in [(false, true), (true, false), (true, true)] {
         for number in [0, 1, 0xffff_ffff] {
             let call = WriteCall {
-                kind: TType::String as u8,
-                other: TType::Uuid as u8,
+                kind: TType::String.into(),
+                other: TType::Uuid.into(),
                 number,
                 absent: Absent { first, second },
                 ..WriteCall::new(WriteStep::MapBegin, 0)
@@ -131,7 +134,6 @@ fn show_too_long(visitor: &mut dyn Visitor) {
     for step in all_sized {
         let call = WriteCall {
             text: &zeros,
-            kind: 1,
             ..WriteCall::new(step, 2)
         };
         visitor.write(&call, 20);
@@ -150,22 +152,24 @@ fn show_random(visitor: &mut dyn Visitor, rng: &mut Rng) {
             .map(|_| b' ' + rng.below(95) as u8)
             .collect();
         let uuid: Vec<u8> = (0..16).map(|_| rng.bits() as u8).collect();
-        let is_message = step == WriteStep::MessageBegin;
+        let strict = rng.once_in(2);
+        let mut told = WriteCall::new(step, 0);
+        if step == WriteStep::MessageBegin {
+            told.message = rng.pick(&MessageType::ALL);
+        } else {
+            told.kind = rng.pick(&StepType::ALL);
+        }
         let call = WriteCall {
             text: if step == WriteStep::Uuid {
                 &uuid
             } else {
                 &text
             },
-            strict: rng.once_in(2),
-            kind: if is_message {
-                1 + rng.below(4)
-            } else {
-                rng.below(15)
-            } as u8,
-            other: rng.below(15) as u8,
+            strict,
+            other: rng.pick(&StepType::ALL),
             number: rng.bits() >> rng.below(64),
-            ..WriteCall::new(step, rng.below(70))
+            place: rng.below(70),
+            ..told
         };
         visitor.write(&call, rng.below(140));
     }

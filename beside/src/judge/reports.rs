@@ -34,11 +34,12 @@ pub fn of_write(
     out: &[u8],
 ) -> String {
     format!(
-        "write {:?} at {} of {length} (strict {}, types {} and {}, {:?}, number {:x}, text {}, struct depth {} of {:?}): {what}\n  \
+        "write {:?} at {} of {length} (strict {}, {:?}, types {:?} and {:?}, {:?}, number {:x}, text {}, struct depth {} of {:?}): {what}\n  \
          crate: {}, {}\n  {}: {ours}, {}",
         call.step,
         call.place,
         call.strict,
+        call.message,
         call.kind,
         call.other,
         call.absent,

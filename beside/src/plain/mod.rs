@@ -7,8 +7,8 @@ mod skip;
 mod text;
 mod write;
 
-use turmyshge::steps::{Answer, Limits, ReadCall, ReadStep, StepRefusal, TType, WriteCall};
-use turmyshge::Kind;
+use turmyshge::steps::{Answer, ReadCall, ReadStep, StepRefusal, WriteCall};
+use turmyshge::{Kind, Limits, Skip, TType};
 
 use crate::port::{skip_refused, Port};
 pub use number::NAN;
@@ -44,21 +44,21 @@ impl Port for Plain {
         })
     }
 
-    fn skip(&self, bytes: &[u8], place: usize, depth: usize, type_byte: u8) -> Option<Answer> {
-        Some(skip_by_byte(bytes, place, depth, type_byte))
+    fn skip(&self, bytes: &[u8], place: usize, type_byte: u8, how: &Skip) -> Option<Answer> {
+        Some(skip_by_byte(bytes, place, type_byte, how))
     }
 }
 
-/// What the desk's call answers.
-pub fn skip_by_byte(bytes: &[u8], place: usize, depth: usize, type_byte: u8) -> Answer {
+/// What the desk's calls answer.
+pub fn skip_by_byte(bytes: &[u8], place: usize, type_byte: u8, how: &Skip) -> Answer {
     if place > bytes.len() {
         return skip_refused(Kind::StartBeyond, place, 0);
     }
-    if depth > DEEPEST {
+    if how.depth > DEEPEST || how.struct_depth > MOST_STRUCTS {
         return skip_refused(Kind::DepthBeyond, place, 0);
     }
     match TType::from_byte(type_byte) {
-        Some(kind) => skip::skip(bytes, place, kind, depth, 0, &Limits::DEFAULT),
+        Some(kind) => skip::skip(bytes, place, kind.into(), how),
         None => skip_refused(Kind::UnknownType, place, 0),
     }
 }
@@ -81,15 +81,12 @@ fn read(call: &ReadCall<'_>) -> Answer {
         return Answer::refused(Kind::DepthBeyond, call.place);
     }
     if call.step == ReadStep::Skip {
-        let (kind, depth) = (call.kind, call.depth);
-        return skip::skip(
-            call.bytes,
-            call.place,
-            kind,
-            depth,
-            call.struct_depth,
-            &call.limits,
-        );
+        let how = Skip {
+            depth: call.depth,
+            struct_depth: call.struct_depth,
+            limits: call.limits,
+        };
+        return skip::skip(call.bytes, call.place, call.kind, &how);
     }
     match step(call) {
         Ok((values, end)) => Answer::accepted(end, values),

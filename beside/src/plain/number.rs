@@ -1,7 +1,7 @@
 //! Big-endian numbers.
 
-use turmyshge::steps::TType;
-use turmyshge::Kind;
+use turmyshge::steps::StepType;
+use turmyshge::{Kind, TType};
 
 use super::{refuse, Read};
 
@@ -49,14 +49,14 @@ pub fn double(bytes: &[u8], at: usize) -> Read<u64> {
 }
 
 /// A scalar of the type asked for.
-pub fn scalar(bytes: &[u8], at: usize, kind: TType) -> Read<[u64; 4]> {
-    let (value, end) = match kind {
-        TType::Bool => boolean(bytes, at),
-        TType::I08 => unsigned::<1>(bytes, at),
-        TType::I16 => unsigned::<2>(bytes, at),
-        TType::I32 => unsigned::<4>(bytes, at),
-        TType::I64 => unsigned::<8>(bytes, at),
-        TType::Double => double(bytes, at),
+pub fn scalar(bytes: &[u8], at: usize, kind: StepType) -> Read<[u64; 4]> {
+    let (value, end) = match kind.wire() {
+        Some(TType::Bool) => boolean(bytes, at),
+        Some(TType::I08) => unsigned::<1>(bytes, at),
+        Some(TType::I16) => unsigned::<2>(bytes, at),
+        Some(TType::I32) => unsigned::<4>(bytes, at),
+        Some(TType::I64) => unsigned::<8>(bytes, at),
+        Some(TType::Double) => double(bytes, at),
         _ => refuse(Kind::WrongType, at),
     }?;
     Ok(([kind.byte().into(), value, 0, 0], end))

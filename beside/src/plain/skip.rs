@@ -1,7 +1,7 @@
 //! The skip.
 
-use turmyshge::steps::{Answer, Limits, StepRefusal, TType};
-use turmyshge::Kind;
+use turmyshge::steps::{Answer, StepRefusal, StepType};
+use turmyshge::{Kind, Limits, Skip, TType};
 
 use super::{header, refuse, text};
 use crate::port::skip_refused;
@@ -15,22 +15,15 @@ struct Walk<'a> {
 }
 
 /// Passes the value of type `kind` at `at`. The start and the depths have been tested.
-pub fn skip(
-    bytes: &[u8],
-    at: usize,
-    kind: TType,
-    depth: usize,
-    open: usize,
-    limits: &Limits,
-) -> Answer {
+pub fn skip(bytes: &[u8], at: usize, kind: StepType, how: &Skip) -> Answer {
     let mut walk = Walk {
         bytes,
-        limits,
-        open,
+        limits: &how.limits,
+        open: how.struct_depth,
         count: 0,
     };
-    match walk.value(at, kind, depth) {
-        Ok(end) => Answer::accepted(end, [walk.count, open as u64, 0, 0]),
+    match walk.value(at, kind, how.depth) {
+        Ok(end) => Answer::accepted(end, [walk.count, how.struct_depth as u64, 0, 0]),
         Err(refused) => skip_refused(refused.kind, refused.place, walk.count),
     }
 }
@@ -38,10 +31,13 @@ pub fn skip(
 type Passed = Result<usize, StepRefusal>;
 
 impl Walk<'_> {
-    fn value(&mut self, at: usize, kind: TType, depth: usize) -> Passed {
+    fn value(&mut self, at: usize, kind: StepType, depth: usize) -> Passed {
         self.count += 1;
         let Some(below) = depth.checked_sub(1) else {
             return refuse(Kind::SkipDepth, at);
+        };
+        let Some(kind) = kind.wire() else {
+            return refuse(Kind::WrongType, at);
         };
         match kind {
             TType::Bool | TType::I08 => self.fixed(at, 1),
@@ -53,7 +49,7 @@ impl Walk<'_> {
             TType::Struct => self.fields(at, below),
             TType::List | TType::Set => self.items(at, below),
             TType::Map => self.pairs(at, below),
-            TType::Stop | TType::Void | TType::Utf7 => refuse(Kind::WrongType, at),
+            TType::Stop | TType::Void => refuse(Kind::WrongType, at),
         }
     }
 
@@ -71,14 +67,14 @@ impl Walk<'_> {
                 return Ok(id);
             }
             at = self.fixed(id, 2)?;
-            at = self.value(at, kind, depth)?;
+            at = self.value(at, kind.into(), depth)?;
         }
     }
 
     fn items(&mut self, at: usize, depth: usize) -> Passed {
         let ((kind, size), mut at) = header::list(self.bytes, at, self.limits)?;
         for _ in 0..size {
-            at = self.value(at, kind, depth)?;
+            at = self.value(at, kind.into(), depth)?;
         }
         Ok(at)
     }
@@ -86,8 +82,8 @@ impl Walk<'_> {
     fn pairs(&mut self, at: usize, depth: usize) -> Passed {
         let ((key, value, size), mut at) = header::map(self.bytes, at, self.limits)?;
         for _ in 0..size {
-            at = self.value(at, key, depth)?;
-            at = self.value(at, value, depth)?;
+            at = self.value(at, key.into(), depth)?;
+            at = self.value(at, value.into(), depth)?;
         }
         Ok(at)
     }

@@ -35,11 +35,13 @@ pub fn write(call: &WriteCall<'_>, out: &mut [u8]) -> Written {
         WriteStep::Double => put(out, at, &[&one_nan(bits).to_be_bytes()]),
         WriteStep::Bytes | WriteStep::String => put(out, at, &[&length(call.text), call.text]),
         WriteStep::Uuid => put(out, at, &[call.text]),
-        WriteStep::ListBegin | WriteStep::SetBegin => {
-            put(out, at, &[&[kind(call.kind)], &(bits as u32).to_be_bytes()])
-        }
+        WriteStep::ListBegin | WriteStep::SetBegin => put(
+            out,
+            at,
+            &[&[call.kind.byte()], &(bits as u32).to_be_bytes()],
+        ),
         WriteStep::MapBegin => {
-            let kinds = [kind(call.kind), kind(call.other)];
+            let kinds = [call.kind.byte(), call.other.byte()];
             put(out, at, &[&kinds, &(bits as u32).to_be_bytes()])
         }
         WriteStep::Frame if call.text.is_empty() => Ok((0, at)),
@@ -67,7 +69,7 @@ fn told(call: &WriteCall<'_>) -> Result<(), StepRefusal> {
         return refuse(Kind::TooLong, call.place);
     }
     let id_missing =
-        call.step == WriteStep::FieldBegin && call.absent.first && call.kind != TType::Stop as u8;
+        call.step == WriteStep::FieldBegin && call.absent.first && call.kind != TType::Stop;
     let type_missing =
         call.step == WriteStep::MapBegin && (call.absent.first || call.absent.second);
     if id_missing || type_missing {
@@ -79,10 +81,6 @@ fn told(call: &WriteCall<'_>) -> Result<(), StepRefusal> {
     Ok(())
 }
 
-fn kind(index: u8) -> u8 {
-    TType::ALL[usize::from(index)].byte()
-}
-
 fn length(text: &[u8]) -> [u8; 4] {
     (text.len() as u32).to_be_bytes()
 }
@@ -91,13 +89,13 @@ fn message(call: &WriteCall<'_>, out: &mut [u8]) -> Written {
     let sequence = (call.number as u32).to_be_bytes();
     let size = length(call.text);
     if call.strict {
-        let head = [0x80, 0x01, 0x00, call.kind];
+        let head = [0x80, 0x01, 0x00, call.message as u8];
         put(out, call.place, &[&head, &size, call.text, &sequence])
     } else {
         put(
             out,
             call.place,
-            &[&size, call.text, &[call.kind], &sequence],
+            &[&size, call.text, &[call.message as u8], &sequence],
         )
     }
 }
@@ -105,7 +103,7 @@ fn message(call: &WriteCall<'_>, out: &mut [u8]) -> Written {
 fn field(call: &WriteCall<'_>, out: &mut [u8]) -> Written {
     let id = (call.number as u16).to_be_bytes();
     let id: &[u8] = if call.absent.first { &[] } else { &id };
-    put(out, call.place, &[&[kind(call.kind)], id])
+    put(out, call.place, &[&[call.kind.byte()], id])
 }
 
 /// Puts all the parts, or none.

@@ -180,13 +180,13 @@ fn number(step: ReadStep, reader: &mut Reader<'_>) -> Option<Values> {
 
 /// The crate has no read by type; its scalars are read by these.
 fn scalar(call: &ReadCall<'_>, reader: &mut Reader<'_>) -> Option<Values> {
-    let step = match (call.step, call.kind) {
-        (ReadStep::Scalar, TType::Bool) => ReadStep::Bool,
-        (ReadStep::Scalar, TType::I08) => ReadStep::I8,
-        (ReadStep::Scalar, TType::I16) => ReadStep::I16,
-        (ReadStep::Scalar, TType::I32) => ReadStep::I32,
-        (ReadStep::Scalar, TType::I64) => ReadStep::I64,
-        (ReadStep::Scalar, TType::Double) => ReadStep::Double,
+    let step = match (call.step, call.kind.wire()) {
+        (ReadStep::Scalar, Some(TType::Bool)) => ReadStep::Bool,
+        (ReadStep::Scalar, Some(TType::I08)) => ReadStep::I8,
+        (ReadStep::Scalar, Some(TType::I16)) => ReadStep::I16,
+        (ReadStep::Scalar, Some(TType::I32)) => ReadStep::I32,
+        (ReadStep::Scalar, Some(TType::I64)) => ReadStep::I64,
+        (ReadStep::Scalar, Some(TType::Double)) => ReadStep::Double,
         _ => return None,
     };
     let kind = u64::from(call.kind.byte());

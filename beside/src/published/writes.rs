@@ -7,7 +7,7 @@ use thrift::protocol::{
     TMessageType, TOutputProtocol, TSetIdentifier, TStructIdentifier,
 };
 use thrift::transport::TWriteTransport;
-use turmyshge::steps::{Answer, Limits, TType, WriteCall, WriteStep};
+use turmyshge::steps::{Answer, Limits, WriteCall, WriteStep};
 
 use super::lent::Room;
 use super::reads::{config, depth_of};
@@ -133,7 +133,8 @@ fn put_text<T: TWriteTransport>(
             writer.write_uuid(&uuid::Uuid::from_bytes(bytes))
         }
         WriteStep::MessageBegin => {
-            let kind = TMessageType::try_from(call.kind).expect("a message type is 1 to 4");
+            let kind =
+                TMessageType::try_from(call.message as u8).expect("a message type is 1 to 4");
             let message = TMessageIdentifier::new(text_of(call), kind, call.number as i32);
             writer.write_message_begin(&message)
         }
@@ -149,24 +150,23 @@ fn put_header<T: TWriteTransport>(
     writer: &mut Writer<T>,
     call: &WriteCall<'_>,
 ) -> thrift::Result<()> {
-    let kind = |index: u8| ttype(TType::ALL[usize::from(index)]);
     let size = call.number as i32;
     match call.step {
         WriteStep::FieldBegin => {
             let id = (!call.absent.first).then_some(call.number as i16);
             writer.write_field_begin(&TFieldIdentifier {
                 name: None,
-                field_type: kind(call.kind),
+                field_type: ttype(call.kind),
                 id,
             })
         }
         WriteStep::ListBegin => {
-            writer.write_list_begin(&TListIdentifier::new(kind(call.kind), size))
+            writer.write_list_begin(&TListIdentifier::new(ttype(call.kind), size))
         }
-        WriteStep::SetBegin => writer.write_set_begin(&TSetIdentifier::new(kind(call.kind), size)),
+        WriteStep::SetBegin => writer.write_set_begin(&TSetIdentifier::new(ttype(call.kind), size)),
         WriteStep::MapBegin => writer.write_map_begin(&TMapIdentifier {
-            key_type: (!call.absent.first).then(|| kind(call.kind)),
-            value_type: (!call.absent.second).then(|| kind(call.other)),
+            key_type: (!call.absent.first).then(|| ttype(call.kind)),
+            value_type: (!call.absent.second).then(|| ttype(call.other)),
             size,
         }),
         _ => put_bare(writer, call.step),

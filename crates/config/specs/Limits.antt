@@ -1,7 +1,7 @@
--- The limits record of document 01: its tests, its defaults, its building, and when one leaves more room than another.
+-- The limits record of document 01: its tests, its defaults, its building, limits as numbers, and when one record leaves more room than another.
 use Prim.Native.Nat.{ℕ, _≤_}
-use mathlib.Core.Bool.{Bool, false}
-use lib.Dec.{ltb, leb}
+use mathlib.Core.Bool.{Bool, false, cond}
+use lib.Dec.{eqb, ltb, leb}
 use Rattle.wire.specs.Answer.{Answer, gives, refuseIf}
 use Rattle.wire.specs.Refusals.{toldRefusal}
 use Rattle.config.specs.declared.limit.Limit.{Limit}
@@ -36,6 +36,16 @@ defaultLimits = limits (AtMost 104857600) (AtMost 16384000) (AtMost 64) Absent (
 
 abbrev pub noLimits : TConfiguration
 noLimits = limits Absent Absent Absent Absent Absent
+
+-- limits that a caller passes as numbers: the greatest of 64 bits stands for "absent"
+abbrev pub noLimit : ℕ
+noLimit = 18446744073709551615
+
+abbrev pub limitOf : ℕ → Limit
+limitOf n = cond (eqb n noLimit) Absent (AtMost n)
+
+abbrev pub limitsOf : ℕ → ℕ → ℕ → ℕ → ℕ → TConfiguration
+limitsOf message frame structs container string = limits (limitOf message) (limitOf frame) (limitOf structs) (limitOf container) (limitOf string)
 
 -- "both frame and message limits are present and frame is greater"
 abbrev pub frameAbove : Limit → Limit → Bool

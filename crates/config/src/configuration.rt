@@ -3,7 +3,7 @@ use crate::limit::Limit;
 use wire::refusal::Kind;
 use wire::refusal::Refusal;
 ghost use mathlib.Core.Path.{_≡_};
-ghost use Rattle.config.specs.Limits.{limits, defaultLimits, noLimits, toldBuilt, builtFrom};
+ghost use Rattle.config.specs.Limits.{limits, defaultLimits, noLimits, limitsOf, toldBuilt, builtFrom};
 
 pub struct TConfiguration {
     pub max_message_size: Limit,
@@ -50,6 +50,25 @@ impl TConfiguration {
             max_recursion_depth: Limit::Absent,
             max_container_size: Limit::Absent,
             max_string_size: Limit::Absent,
+        }
+    }
+
+    // The limits from five numbers, each as `Limit::from_number` takes it.
+    pub fn from_numbers(
+        message: usize,
+        frame: usize,
+        structs: usize,
+        container: usize,
+        string: usize,
+    ) -> Self
+        ensures { λ r. ⌜ r ≡ limitsOf message frame structs container string ⌝ }
+    {
+        TConfiguration {
+            max_message_size: Limit::from_number(message),
+            max_frame_size: Limit::from_number(frame),
+            max_recursion_depth: Limit::from_number(structs),
+            max_container_size: Limit::from_number(container),
+            max_string_size: Limit::from_number(string),
         }
     }
 

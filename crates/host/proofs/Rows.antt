@@ -1,4 +1,4 @@
--- What the desk's call answers, once the record's length and the entry are known; and that no two answers meet its promise. Assumes nothing.
+-- What the calls answer, once the record's length and the entry are known; and that no two answers meet their promise. Assumes nothing.
 use Prim.Native.Nat.{ℕ, _-_, _<_, _≤_}
 use mathlib.Core.Path.{_≡_, refl, sym, ap, subst, _∙_}
 use mathlib.Core.Bool.{Bool, true, false}
@@ -16,45 +16,47 @@ use Rattle.codes.specs.declared.Typed.{Typed}
 use Rattle.codes.specs.declared.Typed.the-variants as Type-of
 use Rattle.number.specs.BigEndian.{bytesOf}
 use Rattle.number.proofs.Widths.{length-bytesOf}
-use Rattle.config.specs.Limits.{defaultLimits}
+use Rattle.config.specs.declared.configuration.TConfiguration.{TConfiguration}
 use Rattle.tree.specs.Answers.{Outcome, cut-off, skipEntry, AfterEntry}
 use Rattle.tree.proofs.Only.{skip-only}
 use Rattle.binary.specs.Binary.{binary}
 use Rattle.binary.proofs.Binary.{binary-reads}
-use Rattle.host.specs.Host.{rowOf, filled, ByType, HostAnswers, ByLength, Hosted}
+use Rattle.host.specs.Host.{rowOf, filled, NoType, ByType, HostAnswers, ByLength, Hosted}
 
-pub unknown-as : (s : List ℕ) (at d : ℕ) (m : Answer Unit) (x : Outcome) → skipEntry d 0 s at ≡ m → AfterEntry m x (x ≡ cut-off 5 at 0) → ByType Type-of.Unknown s at d x
-unknown-as s at d m x e a = subst (λ (n : Answer Unit). AfterEntry n x (x ≡ cut-off 5 at 0)) (sym e) a
+pub unknown-as : (sd : ℕ) (s : List ℕ) (at d : ℕ) (m : Answer Unit) (x : Outcome) → skipEntry d sd s at ≡ m → AfterEntry m x (x ≡ cut-off 5 at 0) → NoType sd s at d x
+unknown-as sd s at d m x e a = subst (λ (n : Answer Unit). AfterEntry n x (x ≡ cut-off 5 at 0)) (sym e) a
 
-pub by-type : (s : List ℕ) (at d b : ℕ) (k : Typed) (x : Outcome) → typeOf b ≡ k → ByType k s at d x → HostAnswers s at d b x
-by-type s at d b k x e a = subst (λ (n : Typed). ByType n s at d x) (sym e) a
+module _ (c : TConfiguration) (sd : ℕ) (s : List ℕ) (at d : ℕ) where
+  -- any two outcomes that the promise admits are equal
+  host-only : (k : Typed) (x y : Outcome) → ByType c sd k s at d x → ByType c sd k s at d y → x ≡ y
+  host-only (Type-of.Known t) x y a b = skip-only binary binary-reads c s at d sd t x y a b
+  host-only Type-of.Unknown x y a b = go (skipEntry d sd s at) a b
+    where
+      go : (m : Answer Unit) → AfterEntry m x (x ≡ cut-off 5 at 0) → AfterEntry m y (y ≡ cut-off 5 at 0) → x ≡ y
+      go (refused n p) a b = a ∙ sym b
+      go (gives u q) a b = a ∙ sym b
 
-pub too-small : (s : List ℕ) (at d b : ℕ) (old : List ℕ) → length old < 24 → Hosted s at d b old 15 old
-too-small s at d b old h = subst (λ (n : Bool). ByLength n s at d b old 15 old) (sym (lt-ltb (length old) 24 h)) (refl, refl)
+  module _ (b : ℕ) where
+    pub by-type : (k : Typed) (x : Outcome) → typeOf b ≡ k → ByType c sd k s at d x → HostAnswers c sd s at d b x
+    by-type k x e a = subst (λ (n : Typed). ByType c sd n s at d x) (sym e) a
 
-pub set : (s : List ℕ) (at d b : ℕ) (old new : List ℕ) (x : Outcome) → 24 ≤ length old → HostAnswers s at d b x → new ≡ filled (rowOf x) old
-    → Hosted s at d b old 0 new
-set s at d b old new x h a e =
-    subst (λ (n : Bool). ByLength n s at d b old 0 new) (sym (le-ltb (length old) 24 h)) (record { outcome = x; answers = a; returned = refl; bytes = e })
+    module _ (old : List ℕ) where
+      pub too-small : length old < 24 → Hosted c sd s at d b old 15 old
+      too-small h = subst (λ (n : Bool). ByLength n c sd s at d b old 15 old) (sym (lt-ltb (length old) 24 h)) (refl, refl)
 
--- any two records and returns that the promise admits are equal
-host-only : (s : List ℕ) (at d : ℕ) (k : Typed) (x y : Outcome) → ByType k s at d x → ByType k s at d y → x ≡ y
-host-only s at d (Type-of.Known t) x y a b = skip-only binary binary-reads defaultLimits s at d 0 t x y a b
-host-only s at d Type-of.Unknown x y a b = go (skipEntry d 0 s at) a b
-  where
-    go : (m : Answer Unit) → AfterEntry m x (x ≡ cut-off 5 at 0) → AfterEntry m y (y ≡ cut-off 5 at 0) → x ≡ y
-    go (refused n p) a b = a ∙ sym b
-    go (gives u q) a b = a ∙ sym b
+      pub set : (new : List ℕ) (x : Outcome) → 24 ≤ length old → HostAnswers c sd s at d b x → new ≡ filled (rowOf x) old → Hosted c sd s at d b old 0 new
+      set new x h a e =
+          subst (λ (n : Bool). ByLength n c sd s at d b old 0 new) (sym (le-ltb (length old) 24 h)) (record { outcome = x; answers = a; returned = refl; bytes = e })
 
-pub hosted-settled : (s : List ℕ) (at d b : ℕ) (old : List ℕ) (r r' : ℕ) (new new' : List ℕ) → Hosted s at d b old r new → Hosted s at d b old r' new'
-    → (r ≡ r') × (new ≡ new')
-hosted-settled s at d b old r r' new new' = go (ltb (length old) 24)
-  where
-    go : (n : Bool) → ByLength n s at d b old r new → ByLength n s at d b old r' new' → (r ≡ r') × (new ≡ new')
-    go true p q = (p .0 ∙ sym (q .0), p .1 ∙ sym (q .1))
-    go false p q =
-        let same : p .outcome ≡ q .outcome = host-only s at d (typeOf b) (p .outcome) (q .outcome) (p .answers) (q .answers) in
-        (p .returned ∙ sym (q .returned), p .bytes ∙ ap (λ (x : Outcome). filled (rowOf x) old) same ∙ sym (q .bytes))
+      -- any two returns and records that the promise admits are equal
+      pub hosted-settled : (r r' : ℕ) (new new' : List ℕ) → Hosted c sd s at d b old r new → Hosted c sd s at d b old r' new' → (r ≡ r') × (new ≡ new')
+      hosted-settled r r' new new' = go (ltb (length old) 24)
+        where
+          go : (n : Bool) → ByLength n c sd s at d b old r new → ByLength n c sd s at d b old r' new' → (r ≡ r') × (new ≡ new')
+          go true p q = (p .0 ∙ sym (q .0), p .1 ∙ sym (q .1))
+          go false p q =
+              let same : p .outcome ≡ q .outcome = host-only (typeOf b) (p .outcome) (q .outcome) (p .answers) (q .answers) in
+              (p .returned ∙ sym (q .returned), p .bytes ∙ ap (λ (x : Outcome). filled (rowOf x) old) same ∙ sym (q .bytes))
 
 -- three numbers, one behind the other
 module _ (out : List ℕ) (a b c : ℕ) (h : 24 ≤ length out) where

@@ -1,6 +1,7 @@
-// The desk's call for C and Rust: a skip of one value under the default limits, its answer in a lent record.
+// The calls for C and Rust: a skip of one value, under the default limits or under any, its answer in a lent record.
 use codes::Typed;
 use config::configuration::TConfiguration;
+use config::limit::Limit;
 use skip::till_depth::Skipped;
 use wire::cursor::Cursor;
 use wire::refusal::Kind;
@@ -11,7 +12,7 @@ ghost use lib.ListN.{length};
 ghost use Rattle.wire.specs.Refusals.{kindNumber};
 ghost use Rattle.tree.specs.Answers.{cut-off};
 ghost use Rattle.skip.specs.Skips.{toldSkipped};
-ghost use Rattle.host.specs.Host.{rowOf, filled, ByType, HostAnswers, Hosted};
+ghost use Rattle.host.specs.Host.{rowOf, filled, NoType, HostAnswers, Hosted, HostedByDefault, skipLimits};
 
 // What the record is set to: the refusal's number or 0, the end or the refusal's place, the count.
 struct Row {
@@ -45,11 +46,14 @@ fn row_of(skipped: Skipped) -> Row
 }
 
 // An unknown type byte: the entry's refusals come before its own.
-fn unknown_type(bytes: &[u8], place: usize, depth: usize) -> Skipped
-    ensures { λ r. ⌜ ByType Typed.Unknown (now (bytes .entry)) place depth (toldSkipped r) ⌝ }
+fn unknown_type(bytes: &[u8], place: usize, depth: usize, struct_depth: usize) -> Skipped
+    ensures { λ r. ⌜ NoType «struct_depth» (now (bytes .entry)) place depth (toldSkipped r) ⌝ }
 {
     if bytes.len() < place {
         return refused(Kind::StartBeyond, place);
+    }
+    if 65_535 < struct_depth {
+        return refused(Kind::DepthBeyond, place);
     }
     if 127 < depth {
         return refused(Kind::DepthBeyond, place);
@@ -66,22 +70,26 @@ fn refused(kind: Kind, place: usize) -> Skipped
     }
 }
 
-fn skip_by_byte(bytes: &[u8], place: usize, depth: usize, type_byte: u8) -> Skipped
-    ensures { λ r. ⌜ HostAnswers (now (bytes .entry)) place depth «type_byte» (toldSkipped r) ⌝ }
+fn skip_by_byte(
+    bytes: &[u8],
+    place: usize,
+    depth: usize,
+    type_byte: u8,
+    struct_depth: usize,
+    limits: TConfiguration,
+) -> Skipped
+    ensures { λ r. ⌜ HostAnswers limits «struct_depth» (now (bytes .entry)) place depth «type_byte» (toldSkipped r) ⌝ }
 {
     match codes::field_type_from_u8(type_byte) {
-        Typed::Known(field_type) => {
-            let limits = TConfiguration::default();
-            skip::till_depth::skip_till_depth(
-                bytes,
-                Cursor { at: place },
-                field_type,
-                depth,
-                0,
-                limits,
-            )
-        }
-        Typed::Unknown => unknown_type(bytes, place, depth),
+        Typed::Known(field_type) => skip::till_depth::skip_till_depth(
+            bytes,
+            Cursor { at: place },
+            field_type,
+            depth,
+            struct_depth,
+            limits,
+        ),
+        Typed::Unknown => unknown_type(bytes, place, depth, struct_depth),
     }
 }
 
@@ -95,6 +103,30 @@ fn fill(kept: &mut [u8], row: Row)
 }
 
 // Returns 15 where the record has fewer than 24 bytes, and else 0 with the record's first 24 bytes set.
+fn answer(
+    bytes: &[u8],
+    place: usize,
+    depth: usize,
+    type_byte: u8,
+    struct_depth: usize,
+    limits: TConfiguration,
+    kept: &mut [u8],
+) -> u32
+    ensures { λ r. ⌜ Hosted limits «struct_depth» (now (bytes .entry)) place depth «type_byte» (now (kept .entry)) r (now (kept .exit)) ⌝ }
+{
+    if kept.len() < 24 {
+        return 15;
+    }
+    fill(
+        kept,
+        row_of(skip_by_byte(bytes, place, depth, type_byte, struct_depth, limits)),
+    );
+    0
+}
+
+// Skips one value under the default limits with no struct open, its answer in the record; returns 0, or 15 where the
+// record has fewer than 24 bytes. Refuses 2, 20, 5 for the type byte, then the value's own: 1, 5, 6, 7, 9, 10, 11, 12.
+// 03 00 00 00 02 05 06 as 0F, depth 2: end 7, count 3; depth 1: 10 at 5, count 2.
 #[no_mangle]
 pub extern "C" fn thrift_skip(
     bytes: &[u8],
@@ -103,11 +135,37 @@ pub extern "C" fn thrift_skip(
     type_byte: u8,
     kept: &mut [u8],
 ) -> u32
-    ensures { λ r. ⌜ Hosted (now (bytes .entry)) place depth «type_byte» (now (kept .entry)) r (now (kept .exit)) ⌝ }
+    ensures { λ r. ⌜ HostedByDefault (now (bytes .entry)) place depth «type_byte» (now (kept .entry)) r (now (kept .exit)) ⌝ }
 {
-    if kept.len() < 24 {
-        return 15;
-    }
-    fill(kept, row_of(skip_by_byte(bytes, place, depth, type_byte)));
-    0
+    answer(
+        bytes,
+        place,
+        depth,
+        type_byte,
+        0,
+        TConfiguration::default(),
+        kept,
+    )
+}
+
+// The same under the limits given, the greatest number for none, and inside as many open structs as are given.
+// Refuses 2, 20, 5 for the type byte, then the value's own: 1, 5, 6, 7, 8, 9, 10, 11, 12.
+// 00 as 0C, depth 1, struct depth 1, structs 2: end 1, count 1; structs 1: 11 at 0, count 1.
+#[no_mangle]
+pub extern "C" fn thrift_skip_within(
+    bytes: &[u8],
+    place: usize,
+    depth: usize,
+    type_byte: u8,
+    struct_depth: usize,
+    message: usize,
+    structs: usize,
+    container: usize,
+    string: usize,
+    kept: &mut [u8],
+) -> u32
+    ensures { λ r. ⌜ Hosted (skipLimits message structs container string) «struct_depth» (now (bytes .entry)) place depth «type_byte» (now (kept .entry)) r (now (kept .exit)) ⌝ }
+{
+    let limits = TConfiguration::from_numbers(message, Limit::NO_LIMIT, structs, container, string);
+    answer(bytes, place, depth, type_byte, struct_depth, limits, kept)
 }

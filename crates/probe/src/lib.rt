@@ -1,7 +1,8 @@
 // Single reads and writes for C and Rust, each asked for by a number, with its answer in a lent record.
 mod kept;
 
-ghost use Rattle.probe_numbers.specs.Numbers.{readStepOf, writeStepOf, limitsOf};
+ghost use Rattle.config.specs.Limits.{limitsOf};
+ghost use Rattle.probe_numbers.specs.Numbers.{readStepOf, writeStepOf};
 ghost use Rattle.probe_reads.specs.Reads.{readingOf};
 ghost use Rattle.probe_writes.specs.Writes.{writingOf, doesOf};
 ghost use Rattle.probe.specs.Reads.{Read};

@@ -1,16 +1,10 @@
--- What the numbers of a call stand for: steps, types and limits.
+-- What the numbers of a call stand for: steps and types.
 use Prim.Native.Nat.{ℕ}
-use mathlib.Core.Bool.{cond}
 use mathlib.Core.List.{List, [], _∷_}
-use lib.Dec.{eqb}
 use lib.ListN.{getD}
 use Rattle.codes.specs.declared.TType.the-variants as T
 use Rattle.codes.specs.declared.Typed.{Typed}
 use Rattle.codes.specs.declared.Typed.the-variants as Type-of
-use Rattle.config.specs.Limits.{limits}
-use Rattle.config.specs.declared.limit.Limit.{Limit}
-use Rattle.config.specs.declared.limit.Limit.the-variants.{Absent, AtMost}
-use Rattle.config.specs.declared.configuration.TConfiguration.{TConfiguration}
 use Rattle.probe_numbers.specs.declared.Plain.the-variants as P
 use Rattle.probe_numbers.specs.declared.Bounded.the-variants as B
 use Rattle.probe_numbers.specs.declared.ReadStep.{ReadStep}
@@ -111,10 +105,3 @@ kinds =
 
 abbrev pub kindOf : ℕ → Typed
 kindOf b = getD kinds b Type-of.Unknown
-
--- the greatest number stands for "absent"
-abbrev pub limitOf : ℕ → Limit
-limitOf n = cond (eqb n 18446744073709551615) Absent (AtMost n)
-
-abbrev pub limitsOf : ℕ → ℕ → ℕ → ℕ → ℕ → TConfiguration
-limitsOf message frame structs container string = limits (limitOf message) (limitOf frame) (limitOf structs) (limitOf container) (limitOf string)

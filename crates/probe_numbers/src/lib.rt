@@ -1,10 +1,8 @@
-// What the numbers of a call stand for: steps, types and limits.
+// What the numbers of a call stand for: steps and types.
 use codes::TType;
 use codes::Typed;
-use config::configuration::TConfiguration;
-use config::limit::Limit;
 ghost use mathlib.Core.Path.{_≡_};
-ghost use Rattle.probe_numbers.specs.Numbers.{readStepOf, writeStepOf, kindOf, limitOf, limitsOf};
+ghost use Rattle.probe_numbers.specs.Numbers.{readStepOf, writeStepOf, kindOf};
 
 // The reads that ask for nothing but a place.
 pub enum Plain {
@@ -190,32 +188,4 @@ pub fn kind(b: u8) -> Typed
 {
     let i = b as usize;
     if i < 15 { KINDS[i] } else { Typed::Unknown }
-}
-
-// The greatest number stands for no limit.
-pub fn limit(n: usize) -> Limit
-    ensures { λ r. ⌜ r ≡ limitOf n ⌝ }
-{
-    if n == 18_446_744_073_709_551_615 {
-        return Limit::Absent;
-    }
-    Limit::AtMost(n)
-}
-
-pub fn limits(
-    message: usize,
-    frame: usize,
-    structs: usize,
-    container: usize,
-    string: usize,
-) -> TConfiguration
-    ensures { λ r. ⌜ r ≡ limitsOf message frame structs container string ⌝ }
-{
-    TConfiguration {
-        max_message_size: limit(message),
-        max_frame_size: limit(frame),
-        max_recursion_depth: limit(structs),
-        max_container_size: limit(container),
-        max_string_size: limit(string),
-    }
 }

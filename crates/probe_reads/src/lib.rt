@@ -8,7 +8,8 @@ use probe_rows::Row;
 use probe_rows::Stepped;
 use wire::cursor::Cursor;
 ghost use mathlib.Core.Path.{_≡_};
-ghost use Rattle.probe_numbers.specs.Numbers.{readStepOf, limitsOf};
+ghost use Rattle.config.specs.Limits.{limitsOf};
+ghost use Rattle.probe_numbers.specs.Numbers.{readStepOf};
 ghost use Rattle.probe_reads.specs.Reads.{readingOf, plainRow, boundedRow, scalarStep, SkipStep, ReadSays};
 
 // What a read may be asked with.
@@ -41,7 +42,7 @@ pub fn asked_with(
         kind: probe_numbers::kind(kind),
         depth,
         struct_depth,
-        limits: probe_numbers::limits(message, frame, structs, container, string),
+        limits: TConfiguration::from_numbers(message, frame, structs, container, string),
     }
 }
 

@@ -38,7 +38,8 @@ use Rattle.probe_numbers.specs.declared.Still.{Still}
 use Rattle.probe_numbers.specs.declared.Still.the-variants as Q
 use Rattle.probe_numbers.specs.declared.WriteStep.{WriteStep}
 use Rattle.probe_numbers.specs.declared.WriteStep.the-variants as Write
-use Rattle.probe_numbers.specs.Numbers.{kindOf, limitOf}
+use Rattle.config.specs.Limits.{limitOf}
+use Rattle.probe_numbers.specs.Numbers.{kindOf}
 use Rattle.probe_rows.specs.Rows.{rowBy, noneRow, numberRow}
 
 abbrev pub writingOf : ℕ → ℕ → ℕ → ℕ → ℕ → ℕ → ℕ → ℕ → Writing

@@ -54,7 +54,7 @@ pub fn asked_with(
         absent,
         number,
         struct_depth,
-        structs: probe_numbers::limit(structs),
+        structs: Limit::from_number(structs),
     }
 }
 

@@ -5,7 +5,6 @@
 //! named functions beside them make one each: `read_i32`, `read_field_begin`, `write_string` and so on.
 
 mod answer;
-mod limits;
 #[cfg(feature = "steps")]
 mod named_reads;
 #[cfg(feature = "steps")]
@@ -15,14 +14,15 @@ mod types;
 mod write_call;
 
 pub use answer::{Answer, StepRefusal};
-pub use limits::Limits;
 #[cfg(feature = "steps")]
 pub use named_reads::*;
 #[cfg(feature = "steps")]
 pub use named_writes::*;
 pub use read_call::{ReadCall, ReadStep};
-pub use types::{MessageType, TType};
+pub use types::{MessageType, StepType};
 pub use write_call::{Absent, WriteCall, WriteStep};
+
+pub use crate::{Limits, TType};
 
 /// Makes the read that `call` describes.
 ///
@@ -43,8 +43,7 @@ pub fn read(call: &ReadCall<'_>) -> Answer {
     Answer::from_record(crate::ffi::read(call).expect("every step and type here is known there"))
 }
 
-/// Makes the write that `call` describes into `out`, or answers none where its arguments make no call: a message type
-/// that is not 1 to 4, a type index above 14, a UUID that has not 16 bytes.
+/// Makes the write that `call` describes into `out`, or answers none where it is of a UUID that has not 16 bytes.
 ///
 /// ```
 /// use turmyshge::steps::{write, WriteCall, WriteStep};

@@ -104,7 +104,7 @@ pub fn write_uuid(out: &mut [u8], place: usize, uuid: [u8; 16]) -> Written {
 /// ```
 pub fn write_field_begin(out: &mut [u8], place: usize, kind: TType, id: Option<i16>) -> Written {
     let call = WriteCall {
-        kind: kind as u8,
+        kind: kind.into(),
         number: u64::from(id.unwrap_or(0) as u16),
         absent: Absent {
             first: id.is_none(),
@@ -122,7 +122,7 @@ pub fn write_field_stop(out: &mut [u8], place: usize) -> Written {
 
 fn elements(step: WriteStep, out: &mut [u8], place: usize, kind: TType, size: i32) -> Written {
     let call = WriteCall {
-        kind: kind as u8,
+        kind: kind.into(),
         number: u64::from(size as u32),
         ..WriteCall::new(step, place)
     };
@@ -156,8 +156,8 @@ pub fn write_map_begin(
     size: i32,
 ) -> Written {
     let call = WriteCall {
-        kind: keys as u8,
-        other: values as u8,
+        kind: keys.into(),
+        other: values.into(),
         number: u64::from(size as u32),
         ..WriteCall::new(WriteStep::MapBegin, place)
     };
@@ -183,7 +183,7 @@ pub fn write_message_begin(
 ) -> Written {
     let call = WriteCall {
         strict,
-        kind: kind as u8,
+        message: kind,
         number: u64::from(sequence as u32),
         text: name.as_bytes(),
         ..WriteCall::new(WriteStep::MessageBegin, place)

@@ -1,6 +1,7 @@
 //! What can be read.
 
-use super::{Limits, TType};
+use super::StepType;
+use crate::{Limits, TType, DEFAULT_SKIP_DEPTH};
 
 /// One step of a reader. The values it answers stand in brackets.
 #[derive(Clone, Copy, Debug, PartialEq, Eq)]
@@ -110,7 +111,7 @@ pub struct ReadCall<'a> {
     /// Whether a message header must have a version.
     pub strict: bool,
     /// The type to skip, or to read as a scalar.
-    pub kind: TType,
+    pub kind: StepType,
     /// How deep a skip may go, at most 127.
     pub depth: usize,
     /// How many structs are open, at most 65,535.
@@ -127,16 +128,19 @@ impl<'a> ReadCall<'a> {
             place,
             step,
             strict: true,
-            kind: TType::Stop,
-            depth: 64,
+            kind: StepType::Wire(TType::Stop),
+            depth: DEFAULT_SKIP_DEPTH,
             struct_depth: 0,
             limits: Limits::DEFAULT,
         }
     }
 
     /// The same for another type.
-    pub fn of(self, kind: TType) -> Self {
-        ReadCall { kind, ..self }
+    pub fn of(self, kind: impl Into<StepType>) -> Self {
+        ReadCall {
+            kind: kind.into(),
+            ..self
+        }
     }
 
     /// The same under other limits.

@@ -1,81 +1,73 @@
-//! The codes of types and of messages.
+//! What a step is told of types, and the codes of messages.
 
-/// A Thrift type. Its number here is its place in this list, not its byte on the wire.
+use crate::TType;
+
+/// A type that a single step is asked for: one that has a byte of its own, or Utf7.
+///
+/// Utf7 is written with `String`'s byte, so it never comes out of a read; no scalar and no skipped value is of it.
 ///
 /// ```
-/// use turmyshge::steps::TType;
+/// use turmyshge::steps::StepType;
+/// use turmyshge::TType;
 ///
-/// assert_eq!(TType::List.byte(), 0x0f);
-/// assert_eq!(TType::from_byte(0x0b), Some(TType::String));
-/// assert_eq!(TType::from_byte(0x05), None);
+/// let kind = StepType::from(TType::I32);
+/// assert!(kind == TType::I32);
+/// assert_eq!((kind.byte(), StepType::Utf7.byte()), (0x08, 0x0b));
 /// ```
 #[derive(Clone, Copy, Debug, PartialEq, Eq)]
-#[repr(u8)]
-pub enum TType {
-    /// Ends a struct's fields.
-    Stop,
-    /// No value.
-    Void,
-    /// One byte, 0 for false.
-    Bool,
-    /// A signed byte.
-    I08,
-    /// A 64-bit float.
-    Double,
-    /// A signed number of 2 bytes.
-    I16,
-    /// A signed number of 4 bytes.
-    I32,
-    /// A signed number of 8 bytes.
-    I64,
-    /// A length and that many bytes.
-    String,
+pub enum StepType {
+    /// A type that has a byte of its own.
+    Wire(TType),
     /// Written as `String` is, and read back as one.
     Utf7,
-    /// Fields until Stop.
-    Struct,
-    /// Keys and values in turn.
-    Map,
-    /// Elements of one type.
-    Set,
-    /// Elements of one type.
-    List,
-    /// 16 bytes.
-    Uuid,
 }
 
-impl TType {
-    /// Every type, in order.
-    pub const ALL: [TType; 15] = [
-        TType::Stop,
-        TType::Void,
-        TType::Bool,
-        TType::I08,
-        TType::Double,
-        TType::I16,
-        TType::I32,
-        TType::I64,
-        TType::String,
-        TType::Utf7,
-        TType::Struct,
-        TType::Map,
-        TType::Set,
-        TType::List,
-        TType::Uuid,
+impl StepType {
+    /// Every type, Utf7 behind String.
+    pub const ALL: [StepType; 15] = [
+        StepType::Wire(TType::Stop),
+        StepType::Wire(TType::Void),
+        StepType::Wire(TType::Bool),
+        StepType::Wire(TType::I08),
+        StepType::Wire(TType::Double),
+        StepType::Wire(TType::I16),
+        StepType::Wire(TType::I32),
+        StepType::Wire(TType::I64),
+        StepType::Wire(TType::String),
+        StepType::Utf7,
+        StepType::Wire(TType::Struct),
+        StepType::Wire(TType::Map),
+        StepType::Wire(TType::Set),
+        StepType::Wire(TType::List),
+        StepType::Wire(TType::Uuid),
     ];
 
-    /// Its byte on the wire.
-    pub fn byte(self) -> u8 {
-        const BYTES: [u8; 15] = [
-            0x00, 0x01, 0x02, 0x03, 0x04, 0x06, 0x08, 0x0a, 0x0b, 0x0b, 0x0c, 0x0d, 0x0e, 0x0f,
-            0x10,
-        ];
-        BYTES[self as usize]
+    /// The byte that it is written with.
+    pub const fn byte(self) -> u8 {
+        match self {
+            StepType::Wire(kind) => kind.byte(),
+            StepType::Utf7 => TType::String.byte(),
+        }
     }
 
-    /// The type that a byte on the wire stands for. 0b is `String`.
-    pub fn from_byte(byte: u8) -> Option<TType> {
-        TType::ALL.into_iter().find(|kind| kind.byte() == byte)
+    /// The type, unless it is Utf7.
+    pub const fn wire(self) -> Option<TType> {
+        match self {
+            StepType::Wire(kind) => Some(kind),
+            StepType::Utf7 => None,
+        }
+    }
+}
+
+impl From<TType> for StepType {
+    fn from(kind: TType) -> Self {
+        StepType::Wire(kind)
+    }
+}
+
+impl PartialEq<TType> for StepType {
+    fn eq(&self, other: &TType) -> bool {
+        self.wire() == Some(*other)
     }
 }
 

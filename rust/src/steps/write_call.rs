@@ -1,10 +1,13 @@
 //! What can be written.
 
+use super::{MessageType, StepType};
+use crate::TType;
+
 /// One step of a writer. What it is told stands in brackets.
 #[derive(Clone, Copy, Debug, PartialEq, Eq)]
 #[repr(u8)]
 pub enum WriteStep {
-    /// A message header (`strict`, `text` the name, `kind` the message type's byte, `number` the sequence number).
+    /// A message header (`strict`, `text` the name, `message`, `number` the sequence number).
     MessageBegin,
     /// Nothing: messages have no end bytes.
     MessageEnd,
@@ -115,10 +118,12 @@ pub struct WriteCall<'a> {
     pub step: WriteStep,
     /// Whether a message header has a version.
     pub strict: bool,
-    /// A type by its place in [`TType`](super::TType), or a message type by its byte.
-    pub kind: u8,
+    /// What a message is.
+    pub message: MessageType,
+    /// The type of a field, of elements or of a map's keys.
+    pub kind: StepType,
     /// The type of a map's values.
-    pub other: u8,
+    pub other: StepType,
     /// What is missing.
     pub absent: Absent,
     /// A number by its bits.
@@ -132,14 +137,16 @@ pub struct WriteCall<'a> {
 }
 
 impl<'a> WriteCall<'a> {
-    /// A write of `step` at `place` with nothing told yet: strict, with no struct open and the default limit on them.
+    /// A write of `step` at `place` with nothing told yet: a strict Call, the type Stop, with no struct open and the
+    /// default limit on them.
     pub fn new(step: WriteStep, place: usize) -> WriteCall<'a> {
         WriteCall {
             place,
             step,
             strict: true,
-            kind: 0,
-            other: 0,
+            message: MessageType::Call,
+            kind: StepType::Wire(TType::Stop),
+            other: StepType::Wire(TType::Stop),
             absent: Absent::NONE,
             number: 0,
             text: &[],

@@ -1,11 +1,13 @@
 //! The four bodies that are skipped.
 
-/// A body: what it is, its type's byte, its bytes.
+use turmyshge::TType;
+
+/// A body: what it is, its type, its bytes.
 pub struct Body {
     /// What it is.
     pub name: &'static str,
-    /// Its type's byte.
-    pub kind: u8,
+    /// Its type.
+    pub kind: TType,
     /// Its bytes.
     pub bytes: Vec<u8>,
 }
@@ -15,22 +17,22 @@ pub fn all() -> [Body; 4] {
     [
         Body {
             name: "skip a struct of 10,000 mixed fields",
-            kind: 0x0c,
+            kind: TType::Struct,
             bytes: mixed_struct(10_000),
         },
         Body {
             name: "skip a list of 1,000,000 I64",
-            kind: 0x0f,
+            kind: TType::List,
             bytes: list_of_i64(1_000_000),
         },
         Body {
             name: "skip a list of 200,000 short strings",
-            kind: 0x0f,
+            kind: TType::List,
             bytes: list_of_strings(200_000),
         },
         Body {
             name: "skip a map of 20,000 strings to small structs",
-            kind: 0x0d,
+            kind: TType::Map,
             bytes: map_to_structs(20_000),
         },
     ]

@@ -28,14 +28,14 @@ fn order() -> Vec<WriteCall<'static>> {
     };
     let text = |step, text| WriteCall { text, ..bare(step) };
     let field = |kind: TType, number| WriteCall {
-        kind: kind as u8,
+        kind: kind.into(),
         number,
         ..bare(WriteStep::FieldBegin)
     };
     vec![
         WriteCall {
             text: b"placeOrder",
-            kind: MessageType::Call as u8,
+            message: MessageType::Call,
             number: 7,
             ..bare(WriteStep::MessageBegin)
         },
@@ -49,7 +49,7 @@ fn order() -> Vec<WriteCall<'static>> {
         text(WriteStep::Uuid, b"0123456789abcdef"),
         field(TType::List, 6),
         WriteCall {
-            kind: TType::I32 as u8,
+            kind: TType::I32.into(),
             number: 2,
             ..bare(WriteStep::ListBegin)
         },

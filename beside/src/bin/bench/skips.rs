@@ -2,7 +2,7 @@
 
 use beside::{plain, published};
 use thrift::protocol::{TBinaryInputProtocol, TInputProtocol};
-use turmyshge::steps::TType;
+use turmyshge::{Skip, TType};
 
 use super::bodies;
 use super::timing::{row, Options, Row};
@@ -23,15 +23,16 @@ pub fn rows(options: &Options) -> Vec<Row> {
                 Some(Box::new(|| {
                     turmyshge::skip(bytes, 0, DEPTH, kind).map_or(0, |passed| passed.end as u64)
                 })),
-                Box::new(|| plain::skip_by_byte(bytes, 0, DEPTH, kind).place as u64),
+                Box::new(|| {
+                    plain::skip_by_byte(bytes, 0, kind.byte(), &Skip::DEFAULT).place as u64
+                }),
             )
         })
         .collect()
 }
 
 /// The crate over a plain slice, and the bytes that it has passed.
-fn by_the_crate(bytes: &[u8], kind: u8) -> u64 {
-    let kind = TType::from_byte(kind).expect("a body has a type");
+fn by_the_crate(bytes: &[u8], kind: TType) -> u64 {
     let mut reader = TBinaryInputProtocol::new(bytes, true);
     match reader.skip_till_depth(published::ttype(kind), DEPTH as i8) {
         Ok(()) => (bytes.len() - reader.transport.len()) as u64,

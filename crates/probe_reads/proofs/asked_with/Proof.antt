@@ -9,4 +9,4 @@ asked-with-spec =
     (tie.spec
     (λ c κs. search needs)
     (λ c κs. search needs)
-    (λ c. rw (c .before .kind .ensures, c .limits .ensures)))
+    (λ c. rw (c .before .kind .ensures, c .from-numbers .ensures)))

@@ -8,4 +8,4 @@ asked-with-spec =
     tie.close
     (tie.spec
     (λ c κs. search needs)
-    (λ c. rw (c .limit .ensures)))
+    (λ c. rw (c .from-number .ensures)))

@@ -3,7 +3,7 @@
 /// The limits of a call. An absent one refuses nothing.
 ///
 /// ```
-/// use turmyshge::steps::Limits;
+/// use turmyshge::Limits;
 ///
 /// let limits = Limits { container: Some(1_000), ..Limits::DEFAULT };
 /// assert_eq!((limits.structs, limits.container), (Some(64), Some(1_000)));
