@@ -17,6 +17,7 @@ use Rattle.wire.specs.declared.refusal.Kind.the-variants as K
 use Rattle.wire.proofs.Refusals.{kindOf, kindOf-number}
 use Rattle.wire.proofs.Unique.{moved-settled}
 use Rattle.wire.proofs.Writes.{wrote-settled}
+use Rattle.config.specs.declared.configuration.TConfiguration.{TConfiguration}
 use Rattle.config.proofs.Building.{built-settled}
 use Rattle.nesting.proofs.Structs.{depth-settled}
 use Rattle.number.proofs.Settled.{byte-settled, bool-settled, i8-settled, i16-settled, i32-settled, i64-settled, double-settled}
@@ -72,14 +73,14 @@ untouched : (r : Moved) (new old : List ℕ) (write : Answer (List ℕ)) (n p : 
 unfolding left
 untouched r new old write n p w e = w .buffer ∙ rw (← e)
 
-module _ (s : List ℕ) (at d b : ℕ) (old : List ℕ) (r : ℕ) (new : List ℕ) where
-  host-short : Hosted s at d b old r new → length old < 24 → (r ≡ 15) × (new ≡ old)
+module _ (c : TConfiguration) (sd : ℕ) (s : List ℕ) (at d b : ℕ) (old : List ℕ) (r : ℕ) (new : List ℕ) where
+  host-short : Hosted c sd s at d b old r new → length old < 24 → (r ≡ 15) × (new ≡ old)
   host-short h l = rw (lt-ltb (length old) 24 l) at h
 
-  host-behind : Hosted s at d b old r new → drop 24 new ≡ drop 24 old
+  host-behind : Hosted c sd s at d b old r new → drop 24 new ≡ drop 24 old
   host-behind = go (ltb (length old) 24)
     where
-      go : (short : Bool) → ByLength short s at d b old r new → drop 24 new ≡ drop 24 old
+      go : (short : Bool) → ByLength short c sd s at d b old r new → drop 24 new ≡ drop 24 old
       go true h = ap (drop 24) (h .1)
       go false h =
           let w = rowOf (h .outcome) in

@@ -108,9 +108,10 @@ pub record Refusals : Type 0 where
   pub one-meaning : (j k : Kind) → kindNumber j ≡ kindNumber k → j ≡ k
   -- "every lent byte are then as before the call": of a write that is refused
   pub untouched : (r : Moved) (new old : List ℕ) (write : Answer (List ℕ)) (n p : ℕ) → Wrote r new old write → refused n p ≡ write → new ≡ old
-  -- "save the host's record": untouched under 24 bytes, and else behind the 24th
-  pub host-short : (s : List ℕ) (at d b : ℕ) (old : List ℕ) (r : ℕ) (new : List ℕ) → Hosted s at d b old r new → length old < 24 → (r ≡ 15) × (new ≡ old)
-  pub host-behind : (s : List ℕ) (at d b : ℕ) (old : List ℕ) (r : ℕ) (new : List ℕ) → Hosted s at d b old r new → drop 24 new ≡ drop 24 old
+  -- "save the host's record": untouched under 24 bytes, and else behind the 24th; under the default limits and any others
+  pub host-short : (c : TConfiguration) (sd : ℕ) (s : List ℕ) (at d b : ℕ) (old : List ℕ) (r : ℕ) (new : List ℕ) → Hosted c sd s at d b old r new → length old < 24
+      → (r ≡ 15) × (new ≡ old)
+  pub host-behind : (c : TConfiguration) (sd : ℕ) (s : List ℕ) (at d b : ℕ) (old : List ℕ) (r : ℕ) (new : List ℕ) → Hosted c sd s at d b old r new → drop 24 new ≡ drop 24 old
 
 -- Demand 2: "Skip accepts exactly where a value of that type stands within depth and limits, and ends where it ends"
 module _ (c : TConfiguration) (s : List ℕ) (at d sd : ℕ) (t : TType) (r : Skipped) where
@@ -182,7 +183,8 @@ pub record OneAnswer : Type 0 where
   pub skips : (c : TConfiguration) (s : List ℕ) (at d sd : ℕ) (t : TType) (a b : Skipped) → SkipSays c s at d sd t a → SkipSays c s at d sd t b → a ≡ b
   -- answer and buffer of a write; return and record of the host's call
   pub writes : (r r' : Moved) (new new' old : List ℕ) (write : Answer (List ℕ)) → Wrote r new old write → Wrote r' new' old write → (r ≡ r') × (new ≡ new')
-  pub host : (s : List ℕ) (at d b : ℕ) (old : List ℕ) (r r' : ℕ) (new new' : List ℕ) → Hosted s at d b old r new → Hosted s at d b old r' new' → (r ≡ r') × (new ≡ new')
+  pub host : (c : TConfiguration) (sd : ℕ) (s : List ℕ) (at d b : ℕ) (old : List ℕ) (r r' : ℕ) (new new' : List ℕ) → Hosted c sd s at d b old r new
+      → Hosted c sd s at d b old r' new' → (r ≡ r') × (new ≡ new')
 
 pub record Demands : Type 1 where
   pub refusals : Refusals
