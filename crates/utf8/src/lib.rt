@@ -1,145 +1,88 @@
 // Whether a text is UTF-8 (RFC 3629), and how far.
 ghost use mathlib.Core.Path.{_≡_};
 ghost use mathlib.Core.List.{[], _∷_};
-ghost use Prim.Native.Nat.{_≤_};
-ghost use lib.ListN.{length, drop};
-ghost use Rattle.utf8.specs.Utf8.{Char, Says, Stands};
-ghost use Rattle.utf8.specs.UpTo.{upTo};
+ghost use lib.ListN.{drop};
+ghost use Rattle.utf8.specs.UpTo.{table, fits, width, upTo};
 
-// Whether bytes are the bytes of one character of two, three or four bytes.
-fn two(a: u8, b: u8) -> bool
-    ensures { λ r. ⌜ Says r (Char (a ∷ b ∷ [])) ⌝ }
+// Whether a byte from low to high stands at a place.
+fn one(s: &[u8], at: usize, low: u8, high: u8) -> bool
+    ensures { λ r. ⌜ r ≡ fits ((low, high) ∷ []) (drop at (now (s .entry))) ⌝ }
 {
-    if a < 0xC2 {
-        return false;
+    if at < s.len() {
+        let b = s[at];
+        if low <= b {
+            return b <= high;
+        }
     }
-    if a > 0xDF {
-        return false;
-    }
-    if b < 0x80 {
-        return false;
-    }
-    if b > 0xBF {
-        return false;
-    }
-    true
+    false
 }
 
-fn three(a: u8, b: u8, c: u8) -> bool
-    ensures { λ r. ⌜ Says r (Char (a ∷ b ∷ c ∷ [])) ⌝ }
+// Whether bytes of two ranges stand there, one after the other.
+fn two(s: &[u8], at: usize, low: u8, high: u8, low2: u8, high2: u8) -> bool
+    ensures { λ r. ⌜ r ≡ fits ((low, high) ∷ (low2, high2) ∷ []) (drop at (now (s .entry))) ⌝ }
 {
-    if a < 0xE0 {
-        return false;
+    if one(s, at, low, high) {
+        return one(s, at + 1, low2, high2);
     }
-    if a > 0xEF {
-        return false;
-    }
-    if b < 0x80 {
-        return false;
-    }
-    if b > 0xBF {
-        return false;
-    }
-    if c < 0x80 {
-        return false;
-    }
-    if c > 0xBF {
-        return false;
-    }
-    let n = (a as u32 - 0xE0) * 4096 + (b as u32 - 0x80) * 64 + (c as u32 - 0x80);
-    if n < 0x800 {
-        return false;
-    }
-    if n < 0xD800 {
-        return true;
-    }
-    if n < 0xE000 {
-        return false;
-    }
-    true
+    false
 }
 
-fn four(a: u8, b: u8, c: u8, d: u8) -> bool
-    ensures { λ r. ⌜ Says r (Char (a ∷ b ∷ c ∷ d ∷ [])) ⌝ }
+// The same, then UTF8-tail.
+fn three(s: &[u8], at: usize, low: u8, high: u8, low2: u8, high2: u8) -> bool
+    ensures { λ r. ⌜ r ≡ fits ((low, high) ∷ (low2, high2) ∷ (0x80, 0xBF) ∷ []) (drop at (now (s .entry))) ⌝ }
 {
-    if a < 0xF0 {
-        return false;
+    if two(s, at, low, high, low2, high2) {
+        return one(s, at + 2, 0x80, 0xBF);
     }
-    if a > 0xF4 {
-        return false;
-    }
-    if b < 0x80 {
-        return false;
-    }
-    if b > 0xBF {
-        return false;
-    }
-    if c < 0x80 {
-        return false;
-    }
-    if c > 0xBF {
-        return false;
-    }
-    if d < 0x80 {
-        return false;
-    }
-    if d > 0xBF {
-        return false;
-    }
-    let n = (a as u32 - 0xF0) * 262144
-        + (b as u32 - 0x80) * 4096
-        + (c as u32 - 0x80) * 64
-        + (d as u32 - 0x80);
-    if n < 0x10000 {
-        return false;
-    }
-    if n > 0x10FFFF {
-        return false;
-    }
-    true
+    false
 }
 
-// How many bytes the character at a place has, or 0 where none stands there.
+// The same, then UTF8-tail twice.
+fn four(s: &[u8], at: usize, low: u8, high: u8, low2: u8, high2: u8) -> bool
+    ensures { λ r. ⌜ r ≡ fits ((low, high) ∷ (low2, high2) ∷ (0x80, 0xBF) ∷ (0x80, 0xBF) ∷ []) (drop at (now (s .entry))) ⌝ }
+{
+    if three(s, at, low, high, low2, high2) {
+        return one(s, at + 3, 0x80, 0xBF);
+    }
+    false
+}
+
+// How many bytes the character at a place has, or 0 where none stands there: the table of RFC 3629, row by row.
 fn char_at(s: &[u8], at: usize) -> usize
-    requires { ⌜ at ≤ length (now s) ⌝ }
-    ensures { λ r. ⌜ Stands (drop at (now (s .entry))) r ⌝ }
+    ensures { λ r. ⌜ r ≡ width table (drop at (now (s .entry))) ⌝ }
 {
-    let n = s.len() - at;
-    if n < 1 {
-        return 0;
-    }
-    let a = s[at];
-    if a < 0x80 {
+    if one(s, at, 0x00, 0x7F) {
         return 1;
     }
-    if n < 2 {
-        return 0;
-    }
-    let j = at + 1;
-    let b = s[j];
-    if two(a, b) {
+    if two(s, at, 0xC2, 0xDF, 0x80, 0xBF) {
         return 2;
     }
-    if n < 3 {
-        return 0;
-    }
-    let k = j + 1;
-    let c = s[k];
-    if three(a, b, c) {
+    if three(s, at, 0xE0, 0xE0, 0xA0, 0xBF) {
         return 3;
     }
-    if n < 4 {
-        return 0;
+    if three(s, at, 0xE1, 0xEC, 0x80, 0xBF) {
+        return 3;
     }
-    let m = k + 1;
-    let d = s[m];
-    if four(a, b, c, d) {
+    if three(s, at, 0xED, 0xED, 0x80, 0x9F) {
+        return 3;
+    }
+    if three(s, at, 0xEE, 0xEF, 0x80, 0xBF) {
+        return 3;
+    }
+    if four(s, at, 0xF0, 0xF0, 0x90, 0xBF) {
+        return 4;
+    }
+    if four(s, at, 0xF1, 0xF3, 0x80, 0xBF) {
+        return 4;
+    }
+    if four(s, at, 0xF4, 0xF4, 0x80, 0x8F) {
         return 4;
     }
     0
 }
 
 // The place of the first character that is not well formed, or the length where all are.
+// 61 C3 A9 gives 3; 61 C3 A9 FF gives 3; ED A0 80 gives 0.
 pub fn valid_up_to(text: &[u8]) -> usize
     ensures { λ r. ⌜ r ≡ upTo (now (text .entry)) ⌝ }
 {

@@ -1,62 +1,78 @@
--- Assumes nothing.
+-- The rows are tried one after another. Assumes nothing.
 use borrow.Author.Needs.{needs}
-use native.Mathlib.Omega.{arith}
 use Prim.Native.Nat.{ℕ}
-use mathlib.Core.List.{List}
-use Rattle.utf8.specs.Utf8.Char.{one}
-use Rattle.utf8.specs.Fronts.{Not, stands, none, is-one}
+use mathlib.Core.Path.{_≡_, sym, _∙_}
+use mathlib.Core.List.{List, []}
+use lib.ListN.{drop, getD}
+use Rattle.utf8.specs.UpTo.{table, width}
+use Rattle.utf8.proofs.Rows.{hit, miss, no-row}
 use Rattle.utf8.proofs.char_at.Statement.{statement}
 use Rattle.utf8.proofs.char_at.Tie as tie
 
--- the bytes and the place, where the tests for one, two and three bytes failed, and what each failure says
-abbrev S : tie.Else2 → List ℕ
-S c = c .before .before .before .before .args .s .now
+-- the bytes from the place on, where the first row does not fit; and that the first k rows do not fit there
+abbrev L : tie.Else1 → List ℕ
+L c = drop (c .before .before .before .args .at) (c .before .before .before .args .s .now)
 
-abbrev At : tie.Else2 → ℕ
-At c = c .before .before .before .before .args .at
+abbrev Past : ℕ → tie.Else1 → Type 0
+Past k c = width table (L c) ≡ width (drop k table) (L c)
 
-no-one : (c : tie.Else2) → Not 1 (S c) (At c)
-no-one c m h = let t = is-one h in omega arith
+past-1 : (c : tie.Else1) → Past 1 c
+unfolding table
+past-1 c = miss (getD table 0 []) _ _ (c .before .one .ensures) (c .if1 .left)
 
-abbrev E2 : tie.Else4 → tie.Else2
-E2 c = c .before .before .before .before
+past-2 : (c : tie.Else2) → Past 2 (c .before .before)
+unfolding table
+past-2 c = past-1 (c .before .before) ∙ miss (getD table 1 []) _ _ (c .before .two .ensures) (c .if2 .left)
 
-no-two : (c : tie.Else4) → Not 2 (S (E2 c)) (At (E2 c))
-no-two c m = rw (c .if4 .left) at (c .before .two .ensures)
+past-3 : (c : tie.Else3) → Past 3 (c .before .before .before .before)
+unfolding table
+past-3 c = past-2 (c .before .before) ∙ miss (getD table 2 []) _ _ (c .before .three .ensures) (c .if3 .left)
 
-abbrev E4 : tie.Else6 → tie.Else4
-E4 c = c .before .before .before .before
+past-4 : (c : tie.Else4) → Past 4 (c .before .before .before .before .before .before)
+unfolding table
+past-4 c = past-3 (c .before .before) ∙ miss (getD table 3 []) _ _ (c .before .three2 .ensures) (c .if4 .left)
 
-no-three : (c : tie.Else6) → Not 3 (S (E2 (E4 c))) (At (E2 (E4 c)))
-no-three c m = rw (c .if6 .left) at (c .before .three .ensures)
+past-5 : (c : tie.Else5) → Past 5 (c .before .before .before .before .before .before .before .before)
+unfolding table
+past-5 c = past-4 (c .before .before) ∙ miss (getD table 4 []) _ _ (c .before .three3 .ensures) (c .if5 .left)
 
-abbrev E6 : tie.After-four → tie.Else6
-E6 c = c .before .before .before
+past-6 : (c : tie.Else6) → Past 6 (c .before .before .before .before .before .before .before .before .before .before)
+unfolding table
+past-6 c = past-5 (c .before .before) ∙ miss (getD table 5 []) _ _ (c .before .three4 .ensures) (c .if6 .left)
+
+past-7 : (c : tie.Else7) → Past 7 (c .before .before .before .before .before .before .before .before .before .before .before .before)
+unfolding table
+past-7 c = past-6 (c .before .before) ∙ miss (getD table 6 []) _ _ (c .before .four .ensures) (c .if7 .left)
+
+past-8 : (c : tie.Else8) → Past 8 (c .before .before .before .before .before .before .before .before .before .before .before .before .before .before)
+unfolding table
+past-8 c = past-7 (c .before .before) ∙ miss (getD table 7 []) _ _ (c .before .four2 .ensures) (c .if8 .left)
+
+past-9 : (c : tie.Else9) → Past 9 (c .before .before .before .before .before .before .before .before .before .before .before .before .before .before .before .before)
+unfolding table
+past-9 c = past-8 (c .before .before) ∙ miss (getD table 8 []) _ _ (c .before .four3 .ensures) (c .if9 .left)
 
 pub char-at-spec : {M : Type 1} → statement M
+unfolding table
 char-at-spec =
     tie.close
     (tie.spec
-    (λ c. search needs)
-    (λ c. let a = c .before .before .args in none (a .s .now) (a .at) (λ m h. omega arith) (λ m h. omega arith) (λ m h. omega arith) (λ m h. omega arith))
-    (λ c. search needs)
-    (λ c. let a = c .before .before .before .before .args in stands 0 (a .s .now) (a .at) (omega arith) (one (c .if2 .taken)))
-    (λ c. none (S (c .before)) (At (c .before)) (no-one (c .before)) (λ m h. omega arith) (λ m h. omega arith) (λ m h. omega arith))
-    (λ c. search needs)
-    (λ c. search needs)
     (λ c κs. search needs)
-    (λ c. let e = c .before .before .before .before in stands 1 (S e) (At e) (omega arith) (rw (c .if4 .taken) at (c .before .two .ensures)))
-    (λ c. let e = E2 (c .before) in none (S e) (At e) (no-one e) (no-two (c .before)) (λ m h. omega arith) (λ m h. omega arith))
-    (λ c. search needs)
-    (λ c. search needs)
+    (λ c. sym (hit (getD table 0 []) _ _ (c .before .one .ensures) (c .if1 .taken)))
     (λ c κs. search needs)
-    (λ c. let e = E2 (c .before .before .before .before) in stands 2 (S e) (At e) (omega arith) (rw (c .if6 .taken) at (c .before .three .ensures)))
-    (λ c. let e = E2 (E4 (c .before)) in none (S e) (At e) (no-one e) (no-two (E4 (c .before))) (no-three (c .before)) (λ m h. omega arith))
-    (λ c. search needs)
-    (λ c. search needs)
+    (λ c. sym (past-1 (c .before .before) ∙ hit (getD table 1 []) _ _ (c .before .two .ensures) (c .if2 .taken)))
     (λ c κs. search needs)
-    (λ c. let e = E2 (E4 (E6 (c .before))) in stands 3 (S e) (At e) (omega arith) (rw (c .if8 .taken) at (c .before .four .ensures)))
-    (λ c.
-    let t = E6 (c .before) in
-    let e = E2 (E4 t) in
-    none (S e) (At e) (no-one e) (no-two (E4 t)) (no-three t) (λ m. rw (c .if8 .left) at (c .before .four .ensures))))
+    (λ c. sym (past-2 (c .before .before) ∙ hit (getD table 2 []) _ _ (c .before .three .ensures) (c .if3 .taken)))
+    (λ c κs. search needs)
+    (λ c. sym (past-3 (c .before .before) ∙ hit (getD table 3 []) _ _ (c .before .three2 .ensures) (c .if4 .taken)))
+    (λ c κs. search needs)
+    (λ c. sym (past-4 (c .before .before) ∙ hit (getD table 4 []) _ _ (c .before .three3 .ensures) (c .if5 .taken)))
+    (λ c κs. search needs)
+    (λ c. sym (past-5 (c .before .before) ∙ hit (getD table 5 []) _ _ (c .before .three4 .ensures) (c .if6 .taken)))
+    (λ c κs. search needs)
+    (λ c. sym (past-6 (c .before .before) ∙ hit (getD table 6 []) _ _ (c .before .four .ensures) (c .if7 .taken)))
+    (λ c κs. search needs)
+    (λ c. sym (past-7 (c .before .before) ∙ hit (getD table 7 []) _ _ (c .before .four2 .ensures) (c .if8 .taken)))
+    (λ c κs. search needs)
+    (λ c. sym (past-8 (c .before .before) ∙ hit (getD table 8 []) _ _ (c .before .four3 .ensures) (c .if9 .taken)))
+    (λ c. sym (past-9 c ∙ no-row _)))

@@ -1,9 +1,8 @@
 -- Assumes nothing.
-use native.Mathlib.Omega.{arith}
 use borrow.Author.Needs.{needs}
-use Prim.Native.Nat.{_+_, _*_, _-_}
-use Rattle.utf8.specs.Utf8.Char.{four as four-bytes}
-use Rattle.utf8.specs.Chars.{is-four}
+use mathlib.Core.List.{[], _∷_}
+use native.Mathlib.Omega.{arith}
+use Rattle.utf8.proofs.Rows.{inside, both, not-both}
 use Rattle.utf8.proofs.four.Statement.{statement}
 use Rattle.utf8.proofs.four.Tie as tie
 
@@ -11,26 +10,8 @@ pub four-spec : {M : Type 1} → statement M
 four-spec =
     tie.close
     (tie.spec
-    (λ c h. let t = is-four h in omega arith)
-    (λ c h. let t = is-four h in omega arith)
-    (λ c h. let t = is-four h in omega arith)
-    (λ c h. let t = is-four h in omega arith)
-    (λ c h. let t = is-four h in omega arith)
-    (λ c h. let t = is-four h in omega arith)
-    (λ c h. let t = is-four h in omega arith)
-    (λ c h. let t = is-four h in omega arith)
-    (λ c. search needs)
-    (λ c. search needs)
-    (λ c. search needs)
-    (λ c. search needs)
-    (λ c. search needs)
-    (λ c. search needs)
-    (λ c. search needs)
-    (λ c. search needs)
-    (λ c. search needs)
-    (λ c. search needs)
-    (λ c h. let t = is-four h in omega arith)
-    (λ c h. let t = is-four h in omega arith)
-    (λ c.
-    let x = c .before .before .before .before .before .before .before .before .before .before .args in
-    four-bytes ((x .a - 0xF0) * 262144 + (x .b - 0x80) * 4096 + (x .c - 0x80) * 64 + (x .d - 0x80)) (omega arith) (omega arith) (omega arith) (omega arith) (omega arith) (omega arith)))
+    (λ c κs. search needs)
+    (λ c. let a = c .before .before .before .args in omega (arith, inside (a .s .now) (a .at) ((a .low, a .high) ∷ (a .low2, a .high2) ∷ (0x80, 0xBF) ∷ []) (rw (c .if1 .taken) at (c .before .three .ensures))))
+    (λ c κs. search needs)
+    (λ c. let a = c .before .before .before .before .args in both (a .s .now) (a .at) ((a .low, a .high) ∷ (a .low2, a .high2) ∷ (0x80, 0xBF) ∷ []) _ (rw (c .before .if1 .taken) at (c .before .before .three .ensures)) (c .one .ensures))
+    (λ c. let a = c .before .before .before .args in not-both (a .s .now) (a .at) ((a .low, a .high) ∷ (a .low2, a .high2) ∷ (0x80, 0xBF) ∷ []) _ (rw (c .if1 .left) at (c .before .three .ensures))))
