@@ -139,7 +139,8 @@ fn char_at(s: &[u8], at: usize) -> usize
     0
 }
 
-// The place of the first character that is not well formed, or the length where all are.
+// The place of the first character that is not well formed, or the length where all are. Refuses nothing.
+// 61 C3 A9 gives 3, its length; 61 C0 80 gives 1, for which callers refuse 13.
 pub fn valid_up_to(text: &[u8]) -> usize
     ensures { λ r. ⌜ r ≡ upTo (now (text .entry)) ⌝ }
 {
