@@ -30,7 +30,8 @@ pub enum TMessageType {
 }
 
 impl TType {
-    // Whether this ends a struct's fields.
+    // Whether this ends a struct's fields. Refuses nothing.
+    // Stop, whose byte is 00, gives true; Void, whose byte is 01, gives false.
     pub fn is_stop(self) -> bool
         ensures { λ r. ⌜ r ≡ isStop self ⌝ }
     {
@@ -49,6 +50,8 @@ pub enum Messaged {
     Unknown,
 }
 
+// The byte that a message type is written as. Refuses nothing.
+// Call gives 01; OneWay gives 04.
 pub fn message_type_to_u8(message_type: TMessageType) -> u8
     ensures { λ r. ⌜ r ≡ messageByte «message_type» ⌝ }
 {
@@ -60,6 +63,8 @@ pub fn message_type_to_u8(message_type: TMessageType) -> u8
     }
 }
 
+// The message type that a byte stands for, or Unknown, for which a read refuses 4. Refuses nothing.
+// 01 gives Call; 05 gives Unknown.
 pub fn message_type_from_u8(b: u8) -> Messaged
     ensures { λ r. ⌜ r ≡ messageOf b ⌝ }
 {
@@ -72,6 +77,8 @@ pub fn message_type_from_u8(b: u8) -> Messaged
     }
 }
 
+// The byte that a type is written as. Refuses nothing.
+// Struct gives 0C; String and Utf7 both give 0B.
 pub fn field_type_to_u8(field_type: TType) -> u8
     ensures { λ r. ⌜ r ≡ typeByte «field_type» ⌝ }
 {
@@ -94,6 +101,8 @@ pub fn field_type_to_u8(field_type: TType) -> u8
     }
 }
 
+// The type that a byte stands for, or Unknown, for which a read refuses 5. Refuses nothing.
+// 0C gives Struct and 0B String; 05 gives Unknown.
 pub fn field_type_from_u8(b: u8) -> Typed
     ensures { λ r. ⌜ r ≡ typeOf b ⌝ }
 {
@@ -116,7 +125,8 @@ pub fn field_type_from_u8(b: u8) -> Typed
     }
 }
 
-// The fewest bytes that a value of the type takes in the binary encoding, as the crate counts them.
+// The fewest bytes that a value of the type takes in the binary encoding, as the crate counts them. Refuses nothing.
+// I32 gives 4 and Uuid 16; List gives 4, though a list's header has five bytes.
 pub fn min_serialized_size(field_type: TType) -> usize
     ensures { λ r. ⌜ r ≡ leastSize «field_type» ⌝ }
 {

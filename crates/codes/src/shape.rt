@@ -15,6 +15,8 @@ pub enum Shape {
     Unfit,
 }
 
+// How the values of a type lie in the bytes. Refuses nothing.
+// I32 gives four bytes, and Set the same as List; Utf7 gives Unfit, for which the skip refuses 12.
 pub fn shape_of(field_type: TType) -> Shape
     ensures { λ r. ⌜ r ≡ shapeOf «field_type» ⌝ }
 {

@@ -29,6 +29,9 @@ impl TConfiguration {
 
     pub const DEFAULT_STRING_LIMIT: usize = 104_857_600;
 
+    // The default limits: message 104,857,600, frame 16,384,000, struct depth 64, container none, string 104,857,600.
+    // Refuses nothing.
+    // Under them the list header 0A 00 C8 00 00 gives I64, 13,107,200; 0A 00 C8 00 01 is refused: 9 at 1.
     pub fn default() -> Self
         ensures { λ r. ⌜ r ≡ defaultLimits ⌝ }
     {
@@ -41,6 +44,8 @@ impl TConfiguration {
         }
     }
 
+    // The record with no limits. Refuses nothing.
+    // Under it the list header 0A 7F FF FF FF gives I64, 2,147,483,647; a struct at depth 65,535 is still refused: 11.
     pub fn no_limits() -> Self
         ensures { λ r. ⌜ r ≡ noLimits ⌝ }
     {
@@ -53,7 +58,8 @@ impl TConfiguration {
         }
     }
 
-    // The limits from five numbers, each as `Limit::from_number` takes it.
+    // The limits from five numbers, each as `Limit::from_number` takes it. Refuses nothing.
+    // 1, 2, 3, 4, 5 give message 1, frame 2, struct depth 3, container 4, string 5; that 2 is above 1 is for `build`.
     pub fn from_numbers(
         message: usize,
         frame: usize,
@@ -72,6 +78,8 @@ impl TConfiguration {
         }
     }
 
+    // The record with this message limit and the other four as they were. Refuses nothing.
+    // The default record and a limit of 5 give message 5 and the other four defaults.
     pub fn max_message_size(mut self, limit: Limit) -> Self
         ensures { λ r. ⌜ r ≡ limits limit (self .«max_frame_size») (self .«max_recursion_depth») (self .«max_container_size») (self .«max_string_size») ⌝ }
     {
@@ -82,6 +90,8 @@ impl TConfiguration {
         self
     }
 
+    // The record with this frame limit and the other four as they were. Refuses nothing.
+    // The default record and a limit of 5 give frame 5 and the other four defaults.
     pub fn max_frame_size(mut self, limit: Limit) -> Self
         ensures { λ r. ⌜ r ≡ limits (self .«max_message_size») limit (self .«max_recursion_depth») (self .«max_container_size») (self .«max_string_size») ⌝ }
     {
@@ -92,6 +102,8 @@ impl TConfiguration {
         self
     }
 
+    // The record with this struct depth limit and the other four as they were. Refuses nothing.
+    // The default record and a limit of 5 give struct depth 5 and the other four defaults.
     pub fn max_recursion_depth(mut self, limit: Limit) -> Self
         ensures { λ r. ⌜ r ≡ limits (self .«max_message_size») (self .«max_frame_size») limit (self .«max_container_size») (self .«max_string_size») ⌝ }
     {
@@ -102,6 +114,8 @@ impl TConfiguration {
         self
     }
 
+    // The record with this container limit and the other four as they were. Refuses nothing.
+    // The default record and a limit of 5 give container 5 and the other four defaults.
     pub fn max_container_size(mut self, limit: Limit) -> Self
         ensures { λ r. ⌜ r ≡ limits (self .«max_message_size») (self .«max_frame_size») (self .«max_recursion_depth») limit (self .«max_string_size») ⌝ }
     {
@@ -112,6 +126,8 @@ impl TConfiguration {
         self
     }
 
+    // The record with this string limit and the other four as they were. Refuses nothing.
+    // The default record and a limit of 5 give string 5 and the other four defaults.
     pub fn max_string_size(mut self, limit: Limit) -> Self
         ensures { λ r. ⌜ r ≡ limits (self .«max_message_size») (self .«max_frame_size») (self .«max_recursion_depth») (self .«max_container_size») limit ⌝ }
     {
@@ -122,7 +138,8 @@ impl TConfiguration {
         self
     }
 
-    // The limits to use, unless a frame may be larger than a message.
+    // The limits to use, unless a frame may be larger than a message. Refuses 19.
+    // Frame 5 and message 5 give the record; frame 6 and message 5 are refused: 19 at 0.
     pub fn build(self) -> Built
         ensures { λ r. ⌜ toldBuilt r ≡ builtFrom self ⌝ }
     {

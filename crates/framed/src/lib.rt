@@ -18,6 +18,8 @@ pub enum FrameRead {
     Refused(Refusal),
 }
 
+// A frame: the span of its payload, or the end where no byte is left. Refuses 2, 1, 6, 18, then 1 for the body.
+// 00 00 00 00 at 0 gives 4 to 4 and ends at 4; 00 00 00 02 61 at 0 is refused: 1 at 4.
 pub fn read_frame(bytes: &[u8], cursor: Cursor, config: TConfiguration) -> FrameRead
     ensures { λ r. ⌜ toldFrame r ≡ frameAt (config .«max_frame_size») (now (bytes .entry)) (cursor .at) ⌝ }
 {
@@ -31,7 +33,8 @@ pub fn read_frame(bytes: &[u8], cursor: Cursor, config: TConfiguration) -> Frame
     }
 }
 
-// The payload's own bytes, none at the end and where the frame is refused.
+// The very bytes of the payload that `read_frame` finds, none at the end and where it refuses. Refuses nothing.
+// 00 00 00 01 61 at 0 gives 61; 00 00 00 02 61 at 0 gives none.
 pub fn payload_part(bytes: &[u8], cursor: Cursor, config: TConfiguration) -> &[u8]
     ensures { λ r. ⌜ now r ≡ payloadIn (now (bytes .entry)) (frameAt (config .«max_frame_size») (now (bytes .entry)) (cursor .at)) ⌝ }
 {
@@ -42,7 +45,8 @@ pub fn payload_part(bytes: &[u8], cursor: Cursor, config: TConfiguration) -> &[u
     }
 }
 
-// An empty payload writes nothing. The frame limit is the reader's.
+// A payload behind its length; an empty one writes nothing. Refuses 2, 16, 15: the frame limit is the reader's.
+// 61 at 0 of 5 bytes AA leaves 00 00 00 01 61 and ends at 5; 61 at 1 of them is refused: 15 at 1.
 pub fn write_frame(out: &mut [u8], cursor: Cursor, payload: &[u8]) -> Moved
     ensures { λ r. ⌜ Wrote r (now (out .exit)) (now (out .entry)) (frameWrite (now (payload .entry)) (now (out .entry)) (cursor .at)) ⌝ }
 {

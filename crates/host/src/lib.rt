@@ -125,8 +125,9 @@ fn answer(
 }
 
 // Skips one value under the default limits with no struct open, its answer in the record; returns 0, or 15 where the
-// record has fewer than 24 bytes. Refuses 2, 20, 5 for the type byte, then the value's own: 1, 5, 6, 7, 9, 10, 11, 12.
-// 03 00 00 00 02 05 06 as 0F, depth 2: end 7, count 3; depth 1: 10 at 5, count 2.
+// record has fewer than 24 bytes. Refuses 2, 20, 5 for the type byte, with count 0; then of each value, as it is met,
+// 10, 12, 11 and what its header or bytes refuse: 1, 5, 6, 7, 9, with the values begun.
+// 03 00 00 00 02 05 06 at 0 as 0F, depth 2, ends at 7, count 3; depth 1 is refused: 10 at 5, count 2.
 #[no_mangle]
 pub extern "C" fn thrift_skip(
     bytes: &[u8],
@@ -149,8 +150,8 @@ pub extern "C" fn thrift_skip(
 }
 
 // The same under the limits given, the greatest number for none, and inside as many open structs as are given.
-// Refuses 2, 20, 5 for the type byte, then the value's own: 1, 5, 6, 7, 8, 9, 10, 11, 12.
-// 00 as 0C, depth 1, struct depth 1, structs 2: end 1, count 1; structs 1: 11 at 0, count 1.
+// Refuses 2, 20, 5 for the type byte, with count 0; then 10, 12, 11, 1, 5, 6, 7, 8, 9 in the same way.
+// 00 at 0 as 0C, depth 1, struct depth 1, ends at 1, count 1, where structs is 2; where it is 1: 11 at 0, count 1.
 #[no_mangle]
 pub extern "C" fn thrift_skip_within(
     bytes: &[u8],

@@ -19,12 +19,16 @@ pub enum Walked {
     Refused(Refusal, usize),
 }
 
+// The refusal of a value that was begun, so with a count of 1. Refuses always, by the kind given.
+// WrongType at 5 gives 12 at 5, count 1.
 pub fn refused(kind: Kind, place: usize) -> Walked
     ensures { λ r. ⌜ toldWalked r ≡ cut-off (kindNumber kind) place 1 ⌝ }
 {
     Walked::Refused(Refusal { kind, place }, 1)
 }
 
+// A value of so many bytes, passed: it counts as one. Refuses 2, 1, with count 1.
+// 00 00 00 07 at 0, width 4, ends at 4, count 1; 00 00 00 at 0, width 4, is refused: 1 at 0, count 1.
 pub fn skip_fixed(bytes: &[u8], cursor: Cursor, width: usize) -> Walked
     ensures { λ r. ⌜ toldWalked r ≡ leafOutcome (within (now (bytes .entry)) (cursor .at) width) ⌝ }
 {
@@ -34,7 +38,8 @@ pub fn skip_fixed(bytes: &[u8], cursor: Cursor, width: usize) -> Walked
     }
 }
 
-// A size, then as many bytes; no check of UTF-8.
+// A text, passed with no check of UTF-8: it counts as one. Refuses 2, 1, 6, 7, then 1 for the body, with count 1.
+// 00 00 00 01 FF at 0 ends at 5, count 1; FF FF FF FF at 0 is refused: 6 at 0, count 1.
 pub fn skip_text(bytes: &[u8], cursor: Cursor, config: TConfiguration) -> Walked
     ensures { λ r. ⌜ toldWalked r ≡ leafOutcome (judged (bytesAt (config .«max_string_size») (now (bytes .entry)) (cursor .at))) ⌝ }
 {

@@ -33,6 +33,8 @@ pub enum MessageTypeRead {
     Refused(Refusal),
 }
 
+// A message type at the cursor. Refuses 2, 1, 4.
+// 01 at 0 gives Call and ends at 1; 05 at 0 is refused: 4 at 0.
 pub fn read_message_type(bytes: &[u8], cursor: Cursor) -> MessageTypeRead
     ensures { λ r. ⌜ toldMessageType r ≡ messageTypeAt (now (bytes .entry)) (cursor .at) ⌝ }
 {
@@ -110,7 +112,11 @@ fn bad_version(at: usize) -> MessageRead
     })
 }
 
-// The top bit of the first byte tells the layouts apart. Byte 2 of a version is not looked at.
+// A message's header: the name's span, the type and the sequence number. Refuses 2, 1 for its four first bytes, 3; then
+// with a version 4, the name's 1, 6, 7, 1, 13, and 1 for the sequence number; without one the name's 7, 1, 13, then
+// 1, 4 for the type and 1. The top bit of the first byte tells the layouts apart; byte 2 of a version is not looked at.
+// 80 01 00 01 00 00 00 02 61 62 00 00 00 07 at 0 gives 8 to 10, Call, 7 and ends at 14; without a version,
+// 00 00 00 02 61 62 01 00 00 00 07 at 0 gives 4 to 6, Call, 7 and ends at 11, but in strict mode is refused: 3 at 0.
 pub fn read_message_begin(
     bytes: &[u8],
     cursor: Cursor,
@@ -140,13 +146,16 @@ pub fn read_message_begin(
     }
 }
 
+// A message's end, which has no byte. Refuses 2.
+// 00 at 1 stays at 1; 00 at 2 is refused: 2 at 2.
 pub fn read_message_end(bytes: &[u8], cursor: Cursor) -> Moved
     ensures { λ r. ⌜ toldMoved r ≡ stayAt (now (bytes .entry)) (cursor .at) ⌝ }
 {
     cursor.stay(bytes)
 }
 
-// The name's own bytes, none where the header is refused.
+// The very bytes of the name that `read_message_begin` finds, none where it refuses. Refuses nothing.
+// 00 00 00 02 61 62 01 00 00 00 07 at 0 gives 61 62; in strict mode it gives none.
 pub fn name_part(bytes: &[u8], cursor: Cursor, strict: bool, config: TConfiguration) -> &[u8]
     ensures { λ r. ⌜ now r ≡ partOf (now (bytes .entry)) (nameOf (messageAt strict (config .«max_string_size») (now (bytes .entry)) (cursor .at))) ⌝ }
 {

@@ -18,6 +18,8 @@ fn refused(kind: Kind, place: usize) -> DepthRead
     DepthRead::Refused(Refusal { kind, place })
 }
 
+// The struct depth one up, where a struct begins; no byte is passed. Refuses 2, 20, 11.
+// 00 at 0, depth 63, default limits, gives 64 and stays at 0; depth 64 is refused: 11 at 0.
 pub fn read_struct_begin(
     bytes: &[u8],
     cursor: Cursor,
@@ -43,6 +45,8 @@ pub fn read_struct_begin(
     DepthRead::Value(depth + 1, cursor)
 }
 
+// The struct depth one down, where a struct ends; no byte is passed. Refuses 2, 20, 14.
+// 00 at 1, depth 1, gives 0 and stays at 1; depth 0 is refused: 14 at 1.
 pub fn read_struct_end(bytes: &[u8], cursor: Cursor, depth: usize) -> DepthRead
     ensures { λ r. ⌜ toldDepth r ≡ structEndAt depth (now (bytes .entry)) (cursor .at) ⌝ }
 {

@@ -43,6 +43,8 @@ pub enum DoubleRead {
     Refused(Refusal),
 }
 
+// A byte at the cursor. Refuses 2, 1.
+// 07 at 0 gives 7 and ends at 1; no byte at 0 is refused: 1 at 0.
 pub fn read_byte(bytes: &[u8], cursor: Cursor) -> ByteRead
     ensures { λ r. ⌜ toldByte r ≡ byteAt (now (bytes .entry)) (cursor .at) ⌝ }
 {
@@ -53,7 +55,8 @@ pub fn read_byte(bytes: &[u8], cursor: Cursor) -> ByteRead
     }
 }
 
-// 0 is false, every other byte true.
+// A bool at the cursor: 0 is false, every other byte true. Refuses 2, 1.
+// 02 at 0 gives true and ends at 1; no byte at 0 is refused: 1 at 0.
 pub fn read_bool(bytes: &[u8], cursor: Cursor) -> BoolRead
     ensures { λ r. ⌜ toldBool r ≡ boolAt (now (bytes .entry)) (cursor .at) ⌝ }
 {
@@ -64,6 +67,8 @@ pub fn read_bool(bytes: &[u8], cursor: Cursor) -> BoolRead
     }
 }
 
+// An 8-bit signed number at the cursor. Refuses 2, 1.
+// 07 at 0 gives 7 and ends at 1; no byte at 0 is refused: 1 at 0.
 pub fn read_i8(bytes: &[u8], cursor: Cursor) -> I8Read
     ensures { λ r. ⌜ toldI8 r ≡ i8At (now (bytes .entry)) (cursor .at) ⌝ }
 {
@@ -74,6 +79,8 @@ pub fn read_i8(bytes: &[u8], cursor: Cursor) -> I8Read
     }
 }
 
+// A 16-bit signed number at the cursor. Refuses 2, 1.
+// 00 07 at 0 gives 7 and ends at 2; 00 at 0 is refused: 1 at 0.
 pub fn read_i16(bytes: &[u8], cursor: Cursor) -> I16Read
     ensures { λ r. ⌜ toldI16 r ≡ i16At (now (bytes .entry)) (cursor .at) ⌝ }
 {
@@ -84,6 +91,8 @@ pub fn read_i16(bytes: &[u8], cursor: Cursor) -> I16Read
     }
 }
 
+// A 32-bit signed number at the cursor. Refuses 2, 1.
+// 00 00 00 07 at 0 gives 7 and ends at 4; 00 00 00 at 0 is refused: 1 at 0.
 pub fn read_i32(bytes: &[u8], cursor: Cursor) -> I32Read
     ensures { λ r. ⌜ toldI32 r ≡ i32At (now (bytes .entry)) (cursor .at) ⌝ }
 {
@@ -94,6 +103,8 @@ pub fn read_i32(bytes: &[u8], cursor: Cursor) -> I32Read
     }
 }
 
+// A 64-bit signed number at the cursor. Refuses 2, 1.
+// 00 00 00 00 00 00 00 07 at 0 gives 7 and ends at 8; 00 00 00 00 00 00 00 at 0 is refused: 1 at 0.
 pub fn read_i64(bytes: &[u8], cursor: Cursor) -> I64Read
     ensures { λ r. ⌜ toldI64 r ≡ i64At (now (bytes .entry)) (cursor .at) ⌝ }
 {
@@ -104,7 +115,8 @@ pub fn read_i64(bytes: &[u8], cursor: Cursor) -> I64Read
     }
 }
 
-// The eight bytes as a float: any NaN comes as the one NaN, so read_i64 is the call that keeps its payload.
+// A double at the cursor, by its eight bytes. Refuses 2, 1. Any NaN comes as the one NaN: read_i64 keeps its payload.
+// 3F F0 00 00 00 00 00 00 at 0 gives 1 and ends at 8; 3F F0 00 00 00 00 00 at 0 is refused: 1 at 0.
 pub fn read_double(bytes: &[u8], cursor: Cursor) -> DoubleRead
     ensures { λ r. ⌜ toldDouble r ≡ doubleAt (now (bytes .entry)) (cursor .at) ⌝ }
 {

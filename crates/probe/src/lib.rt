@@ -8,8 +8,10 @@ ghost use Rattle.probe_writes.specs.Writes.{writingOf, doesOf};
 ghost use Rattle.probe.specs.Reads.{Read};
 ghost use Rattle.probe.specs.Writes.{Written};
 
-// Returns 15 where the record has fewer than 48 bytes, 255 for a step or type that there is not, and else 0 with the
-// record's first 48 bytes set.
+// One read by its number, its answer in the record's first 48 bytes: the refusal's number or 0, the place, four values.
+// Returns 0; 15 where the record has fewer than 48 bytes; 255, with nothing touched, for a step that there is not, or a
+// type that there is not where the step asks for one. Refuses, in the record, what the read of that number refuses.
+// Step 4, 00 00 00 07 at 0, sets 0, 4, 7, 0, 0, 0; step 4, 00 00 00 at 0, sets 1, 0, 0, 0, 0, 0.
 #[no_mangle]
 pub extern "C" fn thrift_read(
     bytes: &[u8],
@@ -46,7 +48,10 @@ pub extern "C" fn thrift_read(
     kept::keep(kept, probe_reads::by_number(bytes, step, call))
 }
 
-// The same of a write, which also returns 255 for a message type that there is not and a UUID that has not 16 bytes.
+// The same of a write into the buffer; also 255 for a message type that there is not and a UUID that has not 16 bytes.
+// Refuses, in the record, what the write of that number refuses, and the buffer stays.
+// Step 11, number 7, at 0 of 4 bytes AA leaves 00 00 00 07 and sets 0, 4, 0, 0, 0, 0; at 1 of them it sets 15, 1 and
+// four times 0.
 #[no_mangle]
 pub extern "C" fn thrift_write(
     out: &mut [u8],

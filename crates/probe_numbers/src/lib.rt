@@ -165,6 +165,7 @@ const KINDS: [Typed; 15] = [
     Typed::Known(TType::Uuid),
 ];
 
+// The read that a number stands for, Unknown from 28 on. Refuses nothing.
 pub fn read_step(b: u8) -> ReadStep
     ensures { λ r. ⌜ r ≡ readStepOf b ⌝ }
 {
@@ -172,6 +173,7 @@ pub fn read_step(b: u8) -> ReadStep
     if i < 28 { READS[i] } else { ReadStep::Unknown }
 }
 
+// The write that a number stands for, Unknown from 24 on. Refuses nothing.
 pub fn write_step(b: u8) -> WriteStep
     ensures { λ r. ⌜ r ≡ writeStepOf b ⌝ }
 {
@@ -183,6 +185,7 @@ pub fn write_step(b: u8) -> WriteStep
     }
 }
 
+// The type that an index in the list above stands for, which is not its byte; Unknown from 15 on. Refuses nothing.
 pub fn kind(b: u8) -> Typed
     ensures { λ r. ⌜ r ≡ kindOf b ⌝ }
 {

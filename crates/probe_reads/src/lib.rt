@@ -22,6 +22,7 @@ pub struct Reading {
     pub limits: TConfiguration,
 }
 
+// What a read is asked with, from plain numbers; strict where its number is not 0. Refuses nothing.
 pub fn asked_with(
     place: usize,
     strict: u8,
@@ -143,6 +144,7 @@ fn by_step(bytes: &[u8], step: ReadStep, call: Reading) -> Stepped
     }
 }
 
+// The record that the read of a number comes to, its refusals among them, or Unknown. Refuses nothing itself.
 pub fn by_number(bytes: &[u8], step: u8, call: Reading) -> Stepped
     ensures { λ r. ⌜ ReadSays (readStepOf step) (now (bytes .entry)) call r ⌝ }
 {

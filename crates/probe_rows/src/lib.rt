@@ -94,6 +94,7 @@ fn bool_number(b: bool) -> u64
     if b { 1 } else { 0 }
 }
 
+// The record's values: the byte. Refuses nothing.
 pub fn of_byte(read: ByteRead) -> Row
     ensures { λ r. ⌜ r ≡ rowBy numberRow (toldByte read) ⌝ }
 {
@@ -103,6 +104,7 @@ pub fn of_byte(read: ByteRead) -> Row
     }
 }
 
+// The record's values: 1 for true, 0 for false. Refuses nothing.
 pub fn of_bool(read: BoolRead) -> Row
     ensures { λ r. ⌜ r ≡ rowBy boolRow (toldBool read) ⌝ }
 {
@@ -112,6 +114,7 @@ pub fn of_bool(read: BoolRead) -> Row
     }
 }
 
+// The record's values: its 8 bits. Refuses nothing.
 pub fn of_i8(read: I8Read) -> Row
     ensures { λ r. ⌜ r ≡ rowBy (bitsRow w8) (toldI8 read) ⌝ }
 {
@@ -121,6 +124,7 @@ pub fn of_i8(read: I8Read) -> Row
     }
 }
 
+// The record's values: its 16 bits. Refuses nothing.
 pub fn of_i16(read: I16Read) -> Row
     ensures { λ r. ⌜ r ≡ rowBy (bitsRow w16) (toldI16 read) ⌝ }
 {
@@ -130,6 +134,7 @@ pub fn of_i16(read: I16Read) -> Row
     }
 }
 
+// The record's values: its 32 bits. Refuses nothing.
 pub fn of_i32(read: I32Read) -> Row
     ensures { λ r. ⌜ r ≡ rowBy (bitsRow w32) (toldI32 read) ⌝ }
 {
@@ -139,6 +144,7 @@ pub fn of_i32(read: I32Read) -> Row
     }
 }
 
+// The record's values: its 64 bits. Refuses nothing.
 pub fn of_i64(read: I64Read) -> Row
     ensures { λ r. ⌜ r ≡ rowBy (bitsRow w64) (toldI64 read) ⌝ }
 {
@@ -148,6 +154,7 @@ pub fn of_i64(read: I64Read) -> Row
     }
 }
 
+// The record's values: its pattern, any NaN as 7FF8 0000 0000 0000. Refuses nothing.
 pub fn of_double(read: DoubleRead) -> Row
     ensures { λ r. ⌜ r ≡ rowBy doubleRow (toldDouble read) ⌝ }
 {
@@ -157,6 +164,7 @@ pub fn of_double(read: DoubleRead) -> Row
     }
 }
 
+// The record's values: the span's start and end. Refuses nothing.
 pub fn of_text(read: TextRead) -> Row
     ensures { λ r. ⌜ r ≡ rowBy spanRow (toldText read) ⌝ }
 {
@@ -166,6 +174,7 @@ pub fn of_text(read: TextRead) -> Row
     }
 }
 
+// The record's values: the type's byte. Refuses nothing.
 pub fn of_type(read: TypeRead) -> Row
     ensures { λ r. ⌜ r ≡ rowBy typeRow (toldType read) ⌝ }
 {
@@ -175,6 +184,7 @@ pub fn of_type(read: TypeRead) -> Row
     }
 }
 
+// The record's values: the type's byte and the id's 16 bits. Refuses nothing.
 pub fn of_field(read: FieldRead) -> Row
     ensures { λ r. ⌜ r ≡ rowBy fieldRow (toldField read) ⌝ }
 {
@@ -192,6 +202,7 @@ pub fn of_field(read: FieldRead) -> Row
     }
 }
 
+// The record's values: the element type's byte and the size's 32 bits. Refuses nothing.
 pub fn of_list(read: ListRead) -> Row
     ensures { λ r. ⌜ r ≡ rowBy listRow (toldList read) ⌝ }
 {
@@ -209,6 +220,7 @@ pub fn of_list(read: ListRead) -> Row
     }
 }
 
+// The record's values: the element type's byte and the size's 32 bits. Refuses nothing.
 pub fn of_set(read: SetRead) -> Row
     ensures { λ r. ⌜ r ≡ rowBy setRow (toldSet read) ⌝ }
 {
@@ -226,6 +238,7 @@ pub fn of_set(read: SetRead) -> Row
     }
 }
 
+// The record's values: the key type's and the value type's byte and the size's 32 bits. Refuses nothing.
 pub fn of_map(read: MapRead) -> Row
     ensures { λ r. ⌜ r ≡ rowBy mapRow (toldMap read) ⌝ }
 {
@@ -247,6 +260,7 @@ pub fn of_map(read: MapRead) -> Row
     }
 }
 
+// The record's values: the struct depth. Refuses nothing.
 pub fn of_depth(read: DepthRead) -> Row
     ensures { λ r. ⌜ r ≡ rowBy numberRow (toldDepth read) ⌝ }
 {
@@ -256,6 +270,7 @@ pub fn of_depth(read: DepthRead) -> Row
     }
 }
 
+// The record's values: the message type's byte. Refuses nothing.
 pub fn of_message_type(read: MessageTypeRead) -> Row
     ensures { λ r. ⌜ r ≡ rowBy messageTypeRow (toldMessageType read) ⌝ }
 {
@@ -265,6 +280,7 @@ pub fn of_message_type(read: MessageTypeRead) -> Row
     }
 }
 
+// The record's values: the name's start and end, the message type's byte, the sequence number's bits. Refuses nothing.
 pub fn of_message(read: MessageRead) -> Row
     ensures { λ r. ⌜ r ≡ rowBy messageRow (toldMessage read) ⌝ }
 {
@@ -286,6 +302,7 @@ pub fn of_message(read: MessageRead) -> Row
     }
 }
 
+// The record's values: 1, the payload's start and end; or 0 at the end. Refuses nothing.
 pub fn of_frame(read: FrameRead) -> Row
     ensures { λ r. ⌜ r ≡ rowBy frameRow (toldFrame read) ⌝ }
 {
@@ -303,6 +320,7 @@ pub fn of_frame(read: FrameRead) -> Row
     }
 }
 
+// The record's values: none. Refuses nothing.
 pub fn of_moved(read: Moved) -> Row
     ensures { λ r. ⌜ r ≡ rowBy noneRow (toldMoved read) ⌝ }
 {
@@ -312,6 +330,7 @@ pub fn of_moved(read: Moved) -> Row
     }
 }
 
+// The record's values: none, and the place 0. Refuses nothing.
 pub fn of_limits(read: Built) -> Row
     ensures { λ r. ⌜ r ≡ rowBy noneRow (toldBuilt read) ⌝ }
 {
@@ -334,6 +353,7 @@ fn scalar_bits(v: Scalar) -> u64
     }
 }
 
+// The record's values: the type's byte and the value's bits. Refuses nothing.
 pub fn of_scalar(t: TType, read: ScalarRead) -> Row
     ensures { λ r. ⌜ r ≡ rowBy (scalarRow t) (toldScalar read) ⌝ }
 {
@@ -345,6 +365,7 @@ pub fn of_scalar(t: TType, read: ScalarRead) -> Row
     }
 }
 
+// The record's values: the count and the struct depth, or of a refusal the count. Refuses nothing.
 pub fn of_skip(skipped: Skipped) -> Row
     ensures { λ r. ⌜ r ≡ skipRow (depthIn skipped) (toldSkipped skipped) ⌝ }
 {

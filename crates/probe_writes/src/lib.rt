@@ -34,6 +34,7 @@ pub struct Writing {
     pub structs: Limit,
 }
 
+// What a write is asked with, from plain numbers; strict where its number is not 0. Refuses nothing.
 pub fn asked_with(
     place: usize,
     strict: u8,
@@ -269,6 +270,7 @@ fn by_step(out: &mut [u8], step: WriteStep, call: Writing, text: &[u8]) -> Stepp
     }
 }
 
+// The record that the write of a number comes to, its refusals among them, or Unknown. Refuses nothing itself.
 pub fn by_number(out: &mut [u8], step: u8, call: Writing, text: &[u8]) -> Stepped
     ensures { λ r. ⌜ WriteSays (doesOf (writeStepOf step) call (now (text .entry)) (now (out .entry))) r (now (out .exit)) (now (out .entry)) ⌝ }
 {

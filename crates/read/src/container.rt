@@ -80,6 +80,8 @@ pub(crate) fn read_count(
     }
 }
 
+// A list's header: element type and size. Refuses 2, 1, 5, then 1, 6, 8, 9 for the size.
+// 03 00 00 00 02 at 0 gives I08, 2 and ends at 5; 03 FF FF FF FF at 0 is refused: 6 at 1.
 pub fn read_list_begin(bytes: &[u8], cursor: Cursor, config: TConfiguration) -> ListRead
     ensures { λ r. ⌜ toldList r ≡ listAt config (now (bytes .entry)) (cursor .at) ⌝ }
 {
@@ -97,13 +99,16 @@ pub fn read_list_begin(bytes: &[u8], cursor: Cursor, config: TConfiguration) -> 
     }
 }
 
+// A list's end, which has no byte. Refuses 2.
+// 00 at 1 stays at 1; 00 at 2 is refused: 2 at 2.
 pub fn read_list_end(bytes: &[u8], cursor: Cursor) -> Moved
     ensures { λ r. ⌜ toldMoved r ≡ stayAt (now (bytes .entry)) (cursor .at) ⌝ }
 {
     cursor.stay(bytes)
 }
 
-// A set is laid out as a list is.
+// A set's header, which is laid out as a list's. Refuses 2, 1, 5, then 1, 6, 8, 9 for the size.
+// 03 00 00 00 02 at 0 gives I08, 2 and ends at 5; 03 FF FF FF FF at 0 is refused: 6 at 1.
 pub fn read_set_begin(bytes: &[u8], cursor: Cursor, config: TConfiguration) -> SetRead
     ensures { λ r. ⌜ toldSet r ≡ setAt config (now (bytes .entry)) (cursor .at) ⌝ }
 {
@@ -117,12 +122,16 @@ pub fn read_set_begin(bytes: &[u8], cursor: Cursor, config: TConfiguration) -> S
     }
 }
 
+// A set's end, which has no byte. Refuses 2.
+// 00 at 1 stays at 1; 00 at 2 is refused: 2 at 2.
 pub fn read_set_end(bytes: &[u8], cursor: Cursor) -> Moved
     ensures { λ r. ⌜ toldMoved r ≡ stayAt (now (bytes .entry)) (cursor .at) ⌝ }
 {
     cursor.stay(bytes)
 }
 
+// A map's header: key type, value type and size. Refuses 2, 1, 5, then 1, 5 for the value type, then 1, 6, 8, 9.
+// 08 0B 00 00 00 02 at 0 gives I32, String, 2 and ends at 6; 08 05 00 00 00 00 at 0 is refused: 5 at 1.
 pub fn read_map_begin(bytes: &[u8], cursor: Cursor, config: TConfiguration) -> MapRead
     ensures { λ r. ⌜ toldMap r ≡ mapAt config (now (bytes .entry)) (cursor .at) ⌝ }
 {
@@ -149,6 +158,8 @@ pub fn read_map_begin(bytes: &[u8], cursor: Cursor, config: TConfiguration) -> M
     }
 }
 
+// A map's end, which has no byte. Refuses 2.
+// 00 at 1 stays at 1; 00 at 2 is refused: 2 at 2.
 pub fn read_map_end(bytes: &[u8], cursor: Cursor) -> Moved
     ensures { λ r. ⌜ toldMoved r ≡ stayAt (now (bytes .entry)) (cursor .at) ⌝ }
 {

@@ -29,6 +29,8 @@ pub enum FieldRead {
     Refused(Refusal),
 }
 
+// A type byte at the cursor. Refuses 2, 1, 5.
+// 0C at 0 gives Struct and ends at 1; 05 at 0 is refused: 5 at 0.
 pub fn read_type(bytes: &[u8], cursor: Cursor) -> TypeRead
     ensures { λ r. ⌜ toldType r ≡ typeAt (now (bytes .entry)) (cursor .at) ⌝ }
 {
@@ -45,6 +47,8 @@ pub fn read_type(bytes: &[u8], cursor: Cursor) -> TypeRead
     }
 }
 
+// A field's header: type and id, or a Stop, which is one byte with id 0. Refuses 2, 1, 5, then 1 for the id.
+// 08 00 01 at 0 gives I32, id 1, and ends at 3; 08 00 at 0 is refused: 1 at 1.
 pub fn read_field_begin(bytes: &[u8], cursor: Cursor) -> FieldRead
     ensures { λ r. ⌜ toldField r ≡ fieldAt (now (bytes .entry)) (cursor .at) ⌝ }
 {
@@ -64,6 +68,8 @@ pub fn read_field_begin(bytes: &[u8], cursor: Cursor) -> FieldRead
     }
 }
 
+// A field's end, which has no byte. Refuses 2.
+// 00 at 1 stays at 1; 00 at 2 is refused: 2 at 2.
 pub fn read_field_end(bytes: &[u8], cursor: Cursor) -> Moved
     ensures { λ r. ⌜ toldMoved r ≡ stayAt (now (bytes .entry)) (cursor .at) ⌝ }
 {

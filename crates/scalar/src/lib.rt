@@ -100,6 +100,8 @@ fn wrong_type(bytes: &[u8], cursor: Cursor) -> ScalarRead
     })
 }
 
+// A scalar of the type asked for. Refuses 2, then 12 for a type that is no scalar kind, else 1.
+// 00 00 00 07 at 0 as I32 gives 7 and ends at 4; no byte at 0 as String is refused: 12 at 0.
 pub fn read_scalar(bytes: &[u8], cursor: Cursor, scalar_type: TType) -> ScalarRead
     ensures { λ r. ⌜ toldScalar r ≡ scalarAt «scalar_type» (now (bytes .entry)) (cursor .at) ⌝ }
 {

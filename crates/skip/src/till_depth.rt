@@ -33,6 +33,9 @@ fn refused(kind: Kind, place: usize) -> Skipped
     }
 }
 
+// Passes one value of the type, whole, and counts the values in it. Refuses 2, 20, with count 0; then of each value, as
+// it is met, 10, 12, 11 and what its header or bytes refuse: 1, 5, 6, 7, 8, 9, with the values begun.
+// 03 00 00 00 02 05 06 at 0 as List, depth 2, ends at 7, count 3; depth 1 is refused: 10 at 5, count 2.
 pub fn skip_till_depth(
     bytes: &[u8],
     cursor: Cursor,
@@ -63,6 +66,8 @@ pub fn skip_till_depth(
     }
 }
 
+// The same at depth 64. Refuses 2, 20 for the struct depth, with count 0; then as `skip_till_depth`.
+// 08 00 01 00 00 00 09 00 at 0 as Struct ends at 8, count 2; FF FF FF FF at 0 as String is refused: 6 at 0, count 1.
 pub fn skip(
     bytes: &[u8],
     cursor: Cursor,

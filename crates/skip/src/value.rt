@@ -1,5 +1,5 @@
-// One value, whatever its type. A value's skip calls that of a struct, a list or a map, and they call back for each child with the depth
-// less one, so the depth bounds the calls.
+// One value, whatever its type. A value's skip calls that of a struct, a list or a map, and they call back for each
+// child with the depth less one, so the depth bounds the calls.
 use codes::TType;
 use codes::shape::Shape;
 use config::configuration::TConfiguration;

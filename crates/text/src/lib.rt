@@ -38,7 +38,8 @@ fn above_limit(body: Body) -> Kind
     }
 }
 
-// A 32-bit size, which must not be negative.
+// A 32-bit size at the cursor, which must not be negative. Refuses 2, 1, 6.
+// 00 00 00 02 at 0 gives 2 and ends at 4; FF FF FF FF at 0 is refused: 6 at 0.
 pub fn read_size(bytes: &[u8], cursor: Cursor) -> I32Read
     ensures { λ r. ⌜ toldI32 r ≡ sizeAt (now (bytes .entry)) (cursor .at) ⌝ }
 {
@@ -57,7 +58,8 @@ pub fn read_size(bytes: &[u8], cursor: Cursor) -> I32Read
     }
 }
 
-// A size within its limit.
+// A size within its limit. Refuses 2, 1, 6, then 7 for a text's and 18 for a frame's.
+// 00 00 00 02 at 0, a text's, limit 2, gives 2 and ends at 4; limit 1 is refused: 7 at 0.
 pub fn read_limited(bytes: &[u8], cursor: Cursor, limit: Limit, body: Body) -> I32Read
     ensures { λ r. ⌜ toldI32 r ≡ limitedAt body limit (now (bytes .entry)) (cursor .at) ⌝ }
 {
@@ -76,7 +78,8 @@ pub fn read_limited(bytes: &[u8], cursor: Cursor, limit: Limit, body: Body) -> I
     }
 }
 
-// Such a size, then as many bytes.
+// Such a size, then as many bytes: the span in which they stand. Refuses 2, 1, 6, 7 or 18, then 1 for the body.
+// 00 00 00 02 61 62 at 0 gives 4 to 6 and ends at 6; 00 00 00 02 61 at 0 is refused: 1 at 4.
 pub fn read_sized(bytes: &[u8], cursor: Cursor, limit: Limit, body: Body) -> TextRead
     ensures { λ r. ⌜ toldText r ≡ sizedAt body limit (now (bytes .entry)) (cursor .at) ⌝ }
 {
@@ -95,7 +98,8 @@ pub fn read_sized(bytes: &[u8], cursor: Cursor, limit: Limit, body: Body) -> Tex
     }
 }
 
-// Bytes: no check of what they are.
+// Bytes behind their length, whatever they are: their span. Refuses 2, 1, 6, 7, then 1 for the body.
+// 00 00 00 01 FF at 0 gives 4 to 5 and ends at 5; 00 00 00 01 at 0 is refused: 1 at 4.
 pub fn read_bytes(bytes: &[u8], cursor: Cursor, config: TConfiguration) -> TextRead
     ensures { λ r. ⌜ toldText r ≡ bytesAt (config .«max_string_size») (now (bytes .entry)) (cursor .at) ⌝ }
 {
@@ -103,7 +107,8 @@ pub fn read_bytes(bytes: &[u8], cursor: Cursor, config: TConfiguration) -> TextR
     read_sized(bytes, cursor, limit, Body::Text)
 }
 
-// A string or a name, which must be UTF-8.
+// A string or a name behind its length, which must be UTF-8: its span. Refuses 2, 1, 6, 7, then 1 for the body, 13.
+// 00 00 00 02 61 62 at 0 gives 4 to 6 and ends at 6; 00 00 00 01 FF at 0 is refused: 13 at 4.
 pub fn read_string(bytes: &[u8], cursor: Cursor, config: TConfiguration) -> TextRead
     ensures { λ r. ⌜ toldText r ≡ stringAt (config .«max_string_size») (now (bytes .entry)) (cursor .at) ⌝ }
 {
@@ -124,7 +129,9 @@ pub fn read_string(bytes: &[u8], cursor: Cursor, config: TConfiguration) -> Text
     }
 }
 
-// A UUID: sixteen bytes, one item.
+// A UUID at the cursor, sixteen bytes that are one item: their span. Refuses 2, 1.
+// 00 01 02 03 04 05 06 07 08 09 0A 0B 0C 0D 0E 0F at 0 gives 0 to 16 and ends at 16;
+// without the last byte it is refused: 1 at 0.
 pub fn read_uuid(bytes: &[u8], cursor: Cursor) -> TextRead
     ensures { λ r. ⌜ toldText r ≡ uuidAt (now (bytes .entry)) (cursor .at) ⌝ }
 {
@@ -138,7 +145,8 @@ pub fn read_uuid(bytes: &[u8], cursor: Cursor) -> TextRead
     }
 }
 
-// The very bytes in a span, none where it does not lie inside.
+// The very bytes in a span, none where it does not lie inside. Refuses nothing.
+// Of 61 62 63, the span 1 to 3 gives 62 63; 2 to 4 and 3 to 1 give none.
 pub fn part(bytes: &[u8], span: Span) -> &[u8]
     ensures { λ r. ⌜ now r ≡ partIn (now (bytes .entry)) span ⌝ }
 {
@@ -153,6 +161,8 @@ pub fn part(bytes: &[u8], span: Span) -> &[u8]
     &bytes[start..end]
 }
 
+// The very bytes that `read_bytes` finds, none where it refuses. Refuses nothing.
+// 00 00 00 01 FF at 0 gives FF; 00 00 00 01 at 0 gives none.
 pub fn bytes_part(bytes: &[u8], cursor: Cursor, config: TConfiguration) -> &[u8]
     ensures { λ r. ⌜ now r ≡ partOf (now (bytes .entry)) (bytesAt (config .«max_string_size») (now (bytes .entry)) (cursor .at)) ⌝ }
 {
@@ -162,6 +172,8 @@ pub fn bytes_part(bytes: &[u8], cursor: Cursor, config: TConfiguration) -> &[u8]
     }
 }
 
+// The very bytes that `read_string` finds, none where it refuses. Refuses nothing.
+// 00 00 00 02 61 62 at 0 gives 61 62; 00 00 00 01 FF at 0 gives none.
 pub fn string_part(bytes: &[u8], cursor: Cursor, config: TConfiguration) -> &[u8]
     ensures { λ r. ⌜ now r ≡ partOf (now (bytes .entry)) (stringAt (config .«max_string_size») (now (bytes .entry)) (cursor .at)) ⌝ }
 {
@@ -171,6 +183,9 @@ pub fn string_part(bytes: &[u8], cursor: Cursor, config: TConfiguration) -> &[u8
     }
 }
 
+// The very bytes that `read_uuid` finds, none where it refuses. Refuses nothing.
+// 00 01 02 03 04 05 06 07 08 09 0A 0B 0C 0D 0E 0F at 0 gives these sixteen bytes;
+// without the last byte it gives none.
 pub fn uuid_part(bytes: &[u8], cursor: Cursor) -> &[u8]
     ensures { λ r. ⌜ now r ≡ partOf (now (bytes .entry)) (uuidAt (now (bytes .entry)) (cursor .at)) ⌝ }
 {

@@ -32,7 +32,8 @@ pub struct Refusal {
 }
 
 impl Kind {
-    // 01's number.
+    // 01's number of this kind. Refuses nothing.
+    // ShortInput gives 1; DepthBeyond gives 20.
     pub fn number(self) -> u8
         ensures { λ r. ⌜ r ≡ kindNumber self ⌝ }
     {

@@ -41,6 +41,8 @@ fn write_elements(out: &mut [u8], cursor: Cursor, element_type: TType, size: u32
     }
 }
 
+// A list's header: element type and size. Refuses 2, 15.
+// I08, 2 at 0 of 5 bytes AA leaves 03 00 00 00 02 and ends at 5; at 1 of them it is refused: 15 at 1.
 pub fn write_list_begin(out: &mut [u8], cursor: Cursor, list: TListIdentifier) -> Moved
     ensures { λ r. ⌜ Wrote r (now (out .exit)) (now (out .entry)) (listWrite (list .«element_type») (list .size) (now (out .entry)) (cursor .at)) ⌝ }
 {
@@ -49,12 +51,16 @@ pub fn write_list_begin(out: &mut [u8], cursor: Cursor, list: TListIdentifier) -
     write_elements(out, cursor, element_type, sign::bits32(size))
 }
 
+// A list's end, which has no byte. Refuses 2.
+// AA at 1 stays at 1; AA at 2 is refused: 2 at 2.
 pub fn write_list_end(out: &[u8], cursor: Cursor) -> Moved
     ensures { λ r. ⌜ toldMoved r ≡ stayAt (now (out .entry)) (cursor .at) ⌝ }
 {
     cursor.stay(out)
 }
 
+// A set's header: element type and size. Refuses 2, 15.
+// I08, 2 at 0 of 5 bytes AA leaves 03 00 00 00 02 and ends at 5; at 1 of them it is refused: 15 at 1.
 pub fn write_set_begin(out: &mut [u8], cursor: Cursor, set: TSetIdentifier) -> Moved
     ensures { λ r. ⌜ Wrote r (now (out .exit)) (now (out .entry)) (listWrite (set .«element_type») (set .size) (now (out .entry)) (cursor .at)) ⌝ }
 {
@@ -63,6 +69,8 @@ pub fn write_set_begin(out: &mut [u8], cursor: Cursor, set: TSetIdentifier) -> M
     write_elements(out, cursor, element_type, sign::bits32(size))
 }
 
+// A set's end, which has no byte. Refuses 2.
+// AA at 1 stays at 1; AA at 2 is refused: 2 at 2.
 pub fn write_set_end(out: &[u8], cursor: Cursor) -> Moved
     ensures { λ r. ⌜ toldMoved r ≡ stayAt (now (out .entry)) (cursor .at) ⌝ }
 {
@@ -97,6 +105,8 @@ fn write_pairs(
     }
 }
 
+// A map's header: key type, value type and size. Refuses 2, 17, 15.
+// I32, String, 2 at 0 of 6 bytes AA leaves 08 0B 00 00 00 02 and ends at 6; I32, no type, 2 is refused: 17 at 0.
 pub fn write_map_begin(
     out: &mut [u8],
     cursor: Cursor,
@@ -115,6 +125,8 @@ pub fn write_map_begin(
     }
 }
 
+// A map's end, which has no byte. Refuses 2.
+// AA at 1 stays at 1; AA at 2 is refused: 2 at 2.
 pub fn write_map_end(out: &[u8], cursor: Cursor) -> Moved
     ensures { λ r. ⌜ toldMoved r ≡ stayAt (now (out .entry)) (cursor .at) ⌝ }
 {

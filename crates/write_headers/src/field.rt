@@ -59,6 +59,9 @@ fn write_with_id(out: &mut [u8], cursor: Cursor, field_type: TType, id: u16) -> 
     }
 }
 
+// A field's header: type and id, which only a Stop may lack; one with an id has three bytes, one without has one.
+// Refuses 2, 17, 15.
+// Stop, id 5 at 0 of AA AA AA leaves 00 00 05 and ends at 3; I32 without an id at 0 is refused: 17 at 0.
 pub fn write_field_begin(out: &mut [u8], cursor: Cursor, field_type: TType, id: FieldId) -> Moved
     ensures { λ r. ⌜ Wrote r (now (out .exit)) (now (out .entry)) (fieldWrite «field_type» id (now (out .entry)) (cursor .at)) ⌝ }
 {
@@ -74,12 +77,16 @@ pub fn write_field_begin(out: &mut [u8], cursor: Cursor, field_type: TType, id: 
     }
 }
 
+// A field's end, which has no byte. Refuses 2.
+// AA at 1 stays at 1; AA at 2 is refused: 2 at 2.
 pub fn write_field_end(out: &[u8], cursor: Cursor) -> Moved
     ensures { λ r. ⌜ toldMoved r ≡ stayAt (now (out .entry)) (cursor .at) ⌝ }
 {
     cursor.stay(out)
 }
 
+// The Stop that ends a struct's fields, one byte. Refuses 2, 15.
+// At 0 of AA it leaves 00 and ends at 1; at 1 of AA it is refused: 15 at 1.
 pub fn write_field_stop(out: &mut [u8], cursor: Cursor) -> Moved
     ensures { λ r. ⌜ Wrote r (now (out .exit)) (now (out .entry)) (stopWrite (now (out .entry)) (cursor .at)) ⌝ }
 {

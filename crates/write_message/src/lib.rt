@@ -74,6 +74,9 @@ fn write_unversioned(
     }
 }
 
+// A message's header, with a version in strict mode and else in the older layout. Refuses 2, 16, 13, 15.
+// 61 62, Call, 7, strict, at 0 of 14 bytes AA leaves 80 01 00 01 00 00 00 02 61 62 00 00 00 07 and ends at 14;
+// at 0 of 13 bytes AA it is refused: 15 at 0, and they stay.
 pub fn write_message_begin(
     out: &mut [u8],
     cursor: Cursor,
@@ -96,6 +99,8 @@ pub fn write_message_begin(
     }
 }
 
+// A message's end, which has no byte. Refuses 2.
+// AA at 1 stays at 1; AA at 2 is refused: 2 at 2.
 pub fn write_message_end(out: &[u8], cursor: Cursor) -> Moved
     ensures { λ r. ⌜ toldMoved r ≡ stayAt (now (out .entry)) (cursor .at) ⌝ }
 {
