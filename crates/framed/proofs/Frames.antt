@@ -7,6 +7,7 @@ use mathlib.Core.Bool.{Bool, true, false, cond}
 use lib.Dec.{eqb}
 use lib.ListN.{length}
 use Rattle.wire.specs.Answer.{Answer, gives, refused, mapped}
+use Rattle.wire.specs.Writes.{puts}
 use Rattle.wire.proofs.Refusals.{refusalOf, told-back}
 use Rattle.wire.proofs.Unique.{settled}
 use Rattle.config.specs.declared.limit.Limit.{Limit}
@@ -49,7 +50,7 @@ payload-lies limit s at {p} {q} = go (eqb at (length s))
     go false e = sized-lies Body-of.Frame limit s at (of-frame _ e)
 
 module _ (payload : List ℕ) (at : ℕ) where
-  pub empty : length payload ≡ 0 → gives [] at ≡ frameOutput payload at
+  pub empty : length payload ≡ 0 → puts [] ≡ frameOutput payload at
   unfolding frameOutput
   empty e = simp (eq-eqb _ _ e)
 

@@ -5,7 +5,7 @@ use mathlib.Core.List.{List, []}
 use lib.Dec.{eqb}
 use lib.ListN.{length}
 use Rattle.wire.specs.Answer.{Answer, gives, refused, mapped}
-use Rattle.wire.specs.Writes.{writeAt}
+use Rattle.wire.specs.Writes.{Output, puts, writeAt}
 use Rattle.config.specs.declared.limit.Limit.{Limit}
 use Rattle.text.specs.Texts.{sizedAt, bytesIn}
 use Rattle.text.specs.declared.Span.{Span}
@@ -30,8 +30,8 @@ payloadIn s (gives end next) = []
 payloadIn s (refused n p) = []
 
 -- "an empty payload writes nothing; else length and payload", with 16
-unfoldable pub frameOutput : List ℕ → ℕ → Answer (List ℕ)
-frameOutput payload at = cond (eqb (length payload) 0) (gives [] at) (bytesOutput payload at)
+unfoldable pub frameOutput : List ℕ → ℕ → Output
+frameOutput payload at = cond (eqb (length payload) 0) (puts []) (bytesOutput payload at)
 
 -- what writing a frame comes to, in a buffer at a place
 abbrev pub frameWrite : List ℕ → List ℕ → ℕ → Answer (List ℕ)

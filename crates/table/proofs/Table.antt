@@ -5,7 +5,7 @@ use mathlib.Core.List.{List, [], _∷_}
 use native.Mathlib.Omega.{arith}
 use borrow.Author.Needs.{needs}
 use Rattle.wire.specs.Answer.{Answer, gives, refused, refuseIf, andThen, stayAt, within, itemAt}
-use Rattle.wire.specs.Writes.{roomFor, laid, writeAt}
+use Rattle.wire.specs.Writes.{roomFor, laid, unlessFails, writeAt}
 use Rattle.codes.proofs.Tables.{Each, entry}
 use Rattle.codes.specs.declared.TType.{TType}
 use Rattle.codes.specs.declared.TType.the-variants as T
@@ -108,7 +108,7 @@ negative =
     steps.leaf-answers binary binary-reads defaultLimits s 0 64 0 (octets s (search needs)) T.String (λ z. omega arith) refl (refused 6 0) refl
 
 pub every-case : Every table
-unfolding messageAt versionedAt unversionedAt messageTypeAt sequenceAt frameAt sizedAt limitedAt sizeAt numberAt itemAt stayAt within refuseIf andThen big bytesOf fieldOutput writeAt roomFor laid
+unfolding messageAt versionedAt unversionedAt messageTypeAt sequenceAt frameAt sizedAt limitedAt sizeAt numberAt itemAt stayAt within refuseIf andThen big bytesOf fieldOutput unlessFails writeAt roomFor laid
 every-case = (
   (ap (λ (m : Answer Span). andThen m λ name next. sequenceAt name M.Call versioned next) (sym string-after-version), refl),
   (

@@ -14,10 +14,10 @@ use lib.ListN.{length, take, length-take}
 use lib.Seq.{take-append-seam, drop-at}
 use mir.Syntax.{Width, w8, w16, w32, w64}
 use mir.Val.{SFits, bits, toZ, ofZ}
-use Rattle.wire.specs.Answer.{Answer, gives, andThen}
-use Rattle.wire.specs.Writes.{roomFor, laid, writeAt, putAt}
+use Rattle.wire.specs.Answer.{gives}
+use Rattle.wire.specs.Writes.{roomFor, laid, Output, puts, unlessFails, writeAt, putAt}
 use Rattle.wire.proofs.Answers.{passed, went}
-use Rattle.wire.proofs.Writes.{has-room, room-fits, put-down, length-laid}
+use Rattle.wire.proofs.Writes.{has-room, room-fits, length-laid}
 use Rattle.number.specs.BigEndian.{big, bytesOf}
 use Rattle.number.specs.Reads.{numberAt, byteAt, boolAt, i8At, i16At, i32At, i64At, doubleAt}
 use Rattle.number.proofs.Widths.{written, signed-written, length-bytesOf}
@@ -32,7 +32,7 @@ use Rattle.tree.proofs.Parts.{part-length, part-split}
 use Rattle.tree.proofs.Reading.{part-within, number-reads}
 use Rattle.binary.proofs.Reading.{sized-reads}
 use Rattle.write.specs.Found.{Found}
-use Rattle.write.specs.Outputs.{bytesOutput, byteWrite, boolWrite, i8Write, i16Write, i32Write, i64Write, doubleWrite, uuidWrite, bytesWrite, stringWrite}
+use Rattle.write.specs.Outputs.{byteWrite, boolWrite, i8Write, i16Write, i32Write, i64Write, doubleWrite, uuidWrite, bytesWrite, stringWrite}
 use Rattle.write.proofs.Outputs.{Name, short, is-short, with-name, written-name}
 
 -- bytes that were laid stand where they were laid
@@ -47,10 +47,10 @@ laid-part bs out at h =
     }
 
 -- what a write put down stands from its place to its end
-pub stands : (output : Answer (List ℕ)) (out : List ℕ) (at : ℕ) {bs new : List ℕ} {q next : ℕ} → gives bs q ≡ output → gives new next ≡ writeAt output out at
+pub stands : (output : Output) (out : List ℕ) (at : ℕ) {bs new : List ℕ} {next : ℕ} → puts bs ≡ output → gives new next ≡ writeAt output out at
     → Part new at next bs
-unfolding writeAt andThen
-stands output out at {bs} {new} {q} {next} e w =
+unfolding writeAt unlessFails
+stands output out at {bs} {new} {next} e w =
     let a = passed (ltb (length out) at) 2 at _ (rw (← e) at w) in
     let b = went (roomFor (length out) at (length bs)) _ (a .gave) in
     let room = room-fits (length out) at (length bs) (b .gave) in
@@ -124,7 +124,7 @@ module _ (out : List ℕ) (at : ℕ) {new : List ℕ} {next : ℕ} where
   module _ (limit : Limit) (b : List ℕ) (below : above (length b) limit ≡ false) where
     pub bytes-back : gives new next ≡ bytesWrite b out at → Found new b (bytesAt limit new at) next
     bytes-back e =
-        let h = is-short b at (put-down (bytesOutput b at) out at e .gave) in
+        let h = is-short b at out e in
         sized-found limit b below (stands _ out at (short b at h) e) Body-of.Text h
 
     pub string-back : gives new next ≡ stringWrite b out at → Found new b (stringAt limit new at) next
