@@ -11,7 +11,7 @@ use mir.Syntax.{w8, w16, w32, w64}
 use mir.Val.{toZ}
 use Rattle.wire.specs.Answer.{Answer, judged, stayAt}
 use Rattle.codes.specs.Codes.{messageOf}
-use Rattle.wire.specs.Writes.{putAt, left}
+use Rattle.wire.specs.Writes.{left}
 use Rattle.codes.specs.declared.TType.{TType}
 use Rattle.codes.specs.declared.Typed.{Typed}
 use Rattle.codes.specs.declared.Typed.the-variants as Type-of

@@ -19,7 +19,7 @@ use Rattle.utf8.specs.Utf8.Text.{empty, more}
 use Rattle.utf8.specs.Fronts.{at-end}
 use Rattle.utf8.specs.UpTo.{upTo, upTo-only}
 use Rattle.text.specs.declared.Span.{Span}
-use Rattle.text.specs.Texts.{span, sizeAt, limitedAt, sizedAt, stringAt}
+use Rattle.text.specs.Texts.{span, sizeAt, limitedAt, sizedAt, partMarked, stringAt}
 use Rattle.text.proofs.Texts as texts
 use Rattle.read.specs.Headers.{typeAt, fieldAt, countAt, listAt}
 use Rattle.nesting.specs.Structs.{structBeginAt}
@@ -44,11 +44,11 @@ ab = upTo-only (0x61 ∷ 0x62 ∷ []) 2 (record { inside = omega arith; text = m
 
 -- the strings of W1 and W2
 string-after-version : gives (span 8 10) 10 ≡ stringAt (defaultLimits .«max_string_size») versioned 4
-unfolding sizedAt limitedAt sizeAt numberAt itemAt big within refuseIf andThen
+unfolding sizedAt partMarked limitedAt sizeAt numberAt itemAt big within refuseIf andThen
 string-after-version = texts.string (defaultLimits .«max_string_size») versioned 4 {p = span 8 10} {next = 10} refl (omega (arith, ab))
 
 string-first : gives (span 4 6) 6 ≡ stringAt (defaultLimits .«max_string_size») unversioned 0
-unfolding sizedAt limitedAt sizeAt numberAt itemAt big within refuseIf andThen
+unfolding sizedAt partMarked limitedAt sizeAt numberAt itemAt big within refuseIf andThen
 string-first = texts.string (defaultLimits .«max_string_size») unversioned 0 {p = span 4 6} {next = 6} refl (omega (arith, ab))
 
 -- bytes are below 256, each of them
@@ -108,7 +108,7 @@ negative =
     steps.leaf-answers binary binary-reads defaultLimits s 0 64 0 (octets s (search needs)) T.String (λ z. omega arith) refl (refused 6 0) refl
 
 pub every-case : Every table
-unfolding messageAt versionedAt unversionedAt messageTypeAt sequenceAt frameAt sizedAt limitedAt sizeAt numberAt itemAt stayAt within refuseIf andThen big bytesOf fieldOutput unlessFails writeAt roomFor laid
+unfolding messageAt versionedAt unversionedAt messageTypeAt sequenceAt frameAt sizedAt partMarked limitedAt sizeAt numberAt itemAt stayAt within refuseIf andThen big bytesOf fieldOutput unlessFails writeAt roomFor laid
 every-case = (
   (ap (λ (m : Answer Span). andThen m λ name next. sequenceAt name M.Call versioned next) (sym string-after-version), refl),
   (

@@ -9,7 +9,7 @@ use wire::refusal::Refusal;
 ghost use mathlib.Core.Path.{_≡_};
 ghost use Rattle.wire.specs.Refusals.{kindNumber};
 ghost use Rattle.number.specs.Told.{toldI32};
-ghost use Rattle.text.specs.Texts.{overNumber, sizeAt, limitedAt, sizedAt, bytesAt, stringAt, uuidAt, partIn, partOf};
+ghost use Rattle.text.specs.Texts.{overNumber, sizeAt, limitedAt, sizedAt, bytesAt, stringAt, uuidAt, partMarked, partFound};
 ghost use Rattle.text.specs.Told.{toldText};
 
 // From its first byte up to the one after its last.
@@ -140,7 +140,7 @@ pub fn read_uuid(bytes: &[u8], cursor: Cursor) -> TextRead
 
 // The very bytes in a span, none where it does not lie inside.
 pub fn part(bytes: &[u8], span: Span) -> &[u8]
-    ensures { λ r. ⌜ now r ≡ partIn (now (bytes .entry)) span ⌝ }
+    ensures { λ r. ⌜ now r ≡ partMarked (now (bytes .entry)) span ⌝ }
 {
     let start = span.start;
     let end = span.end;
@@ -154,7 +154,7 @@ pub fn part(bytes: &[u8], span: Span) -> &[u8]
 }
 
 pub fn bytes_part(bytes: &[u8], cursor: Cursor, config: TConfiguration) -> &[u8]
-    ensures { λ r. ⌜ now r ≡ partOf (now (bytes .entry)) (bytesAt (config .«max_string_size») (now (bytes .entry)) (cursor .at)) ⌝ }
+    ensures { λ r. ⌜ now r ≡ partFound (now (bytes .entry)) (bytesAt (config .«max_string_size») (now (bytes .entry)) (cursor .at)) ⌝ }
 {
     match read_bytes(bytes, cursor, config) {
         TextRead::Value(span, _) => part(bytes, span),
@@ -163,7 +163,7 @@ pub fn bytes_part(bytes: &[u8], cursor: Cursor, config: TConfiguration) -> &[u8]
 }
 
 pub fn string_part(bytes: &[u8], cursor: Cursor, config: TConfiguration) -> &[u8]
-    ensures { λ r. ⌜ now r ≡ partOf (now (bytes .entry)) (stringAt (config .«max_string_size») (now (bytes .entry)) (cursor .at)) ⌝ }
+    ensures { λ r. ⌜ now r ≡ partFound (now (bytes .entry)) (stringAt (config .«max_string_size») (now (bytes .entry)) (cursor .at)) ⌝ }
 {
     match read_string(bytes, cursor, config) {
         TextRead::Value(span, _) => part(bytes, span),
@@ -172,7 +172,7 @@ pub fn string_part(bytes: &[u8], cursor: Cursor, config: TConfiguration) -> &[u8
 }
 
 pub fn uuid_part(bytes: &[u8], cursor: Cursor) -> &[u8]
-    ensures { λ r. ⌜ now r ≡ partOf (now (bytes .entry)) (uuidAt (now (bytes .entry)) (cursor .at)) ⌝ }
+    ensures { λ r. ⌜ now r ≡ partFound (now (bytes .entry)) (uuidAt (now (bytes .entry)) (cursor .at)) ⌝ }
 {
     match read_uuid(bytes, cursor) {
         TextRead::Value(span, _) => part(bytes, span),

@@ -23,7 +23,7 @@ use Rattle.number.specs.Reads.{numberAt, byteAt, boolAt, i8At, i16At, i32At, i6
 use Rattle.number.proofs.Widths.{written, signed-written, length-bytesOf}
 use Rattle.config.specs.Limits.{above}
 use Rattle.config.specs.declared.limit.Limit.{Limit}
-use Rattle.text.specs.Texts.{span, sizedLayout, sizedAt, bytesAt, stringAt, uuidAt}
+use Rattle.text.specs.Texts.{span, sizedLayout, partMarked, sizedAt, bytesAt, stringAt, uuidAt}
 use Rattle.text.proofs.Texts as texts
 use Rattle.text.specs.declared.Body.{Body}
 use Rattle.text.specs.declared.Body.the-variants as Body-of
@@ -58,6 +58,10 @@ stands output out at {bs} {new} {next} e w =
     let place : next ≡ at + length bs = cc (b .on, has-room (length out) at (length bs) (b .gave) .after) in
     rw (buffer, place) (laid-part bs out at room)
 
+-- a part is what a span over it marks
+marked : {s b : List ℕ} {at e : ℕ} → Part s at e b → partMarked s (span at e) ≡ b
+marked {s} {b} {at} {e} p = sym (texts.part-inside s (span at e) (p .within)) ∙ p .bytes
+
 -- a size and its bytes within the reader's limit
 module _ {s : List ℕ} {at e : ℕ} (limit : Limit) (b : List ℕ) (below : above (length b) limit ≡ false) (p : Part s at e (sizedLayout b)) where
   -- with any number for the limit
@@ -66,7 +70,7 @@ module _ {s : List ℕ} {at e : ℕ} (limit : Limit) (b : List ℕ) (below : abo
       let sp = part-split (bytesOf 4 (length b)) b p in
       let l = part-length (sp .left) in
       let mid : sp .mid ≡ at + 4 = omega (arith, length-bytesOf 4 (length b), l) in
-      record { place = span (at + 4) e; gave = sized-reads body limit b (omega arith) below p; bytes = rw mid at (sp .right .bytes) }
+      record { place = span (at + 4) e; gave = sized-reads body limit b (omega arith) below p; bytes = marked (rw mid at (sp .right)) }
 
   pub string-found : Name b → Found s b (stringAt limit s at) e
   string-found n =
@@ -118,7 +122,7 @@ module _ (out : List ℕ) (at : ℕ) {new : List ℕ} {next : ℕ} where
   pub uuid-back : (id : List ℕ) → length id ≡ 16 → gives new next ≡ uuidWrite id out at → Found new id (uuidAt new at) next
   uuid-back id l e =
       let p = stands _ out at refl e in
-      record { place = span at next; gave = texts.uuid new at (part-within id 16 l p); bytes = p .bytes }
+      record { place = span at next; gave = texts.uuid new at (part-within id 16 l p); bytes = marked p }
 
   -- bytes and strings, within the reader's limit
   module _ (limit : Limit) (b : List ℕ) (below : above (length b) limit ≡ false) where
