@@ -31,26 +31,26 @@ typeByte T.Set = 0x0E
 typeByte T.List = 0x0F
 typeByte T.Uuid = 0x10
 
--- what the bytes from 00 on are read as: 0B as String; 05, 07 and 09 stand for nothing, and so do all above 10 (hex)
+-- what each byte is read as, from 00 on: 0B as String; 05, 07 and 09 stand for nothing, and so do all above 10 (hex)
 abbrev pub types : List Typed
 types =
-    Type-of.Known T.Stop
-    ∷ Type-of.Known T.Void
-    ∷ Type-of.Known T.Bool
-    ∷ Type-of.Known T.I08
-    ∷ Type-of.Known T.Double
-    ∷ Type-of.Unknown
-    ∷ Type-of.Known T.I16
-    ∷ Type-of.Unknown
-    ∷ Type-of.Known T.I32
-    ∷ Type-of.Unknown
-    ∷ Type-of.Known T.I64
-    ∷ Type-of.Known T.String
-    ∷ Type-of.Known T.Struct
-    ∷ Type-of.Known T.Map
-    ∷ Type-of.Known T.Set
-    ∷ Type-of.Known T.List
-    ∷ Type-of.Known T.Uuid
+    Type-of.Known T.Stop  -- 00
+    ∷ Type-of.Known T.Void  -- 01
+    ∷ Type-of.Known T.Bool  -- 02
+    ∷ Type-of.Known T.I08  -- 03
+    ∷ Type-of.Known T.Double  -- 04
+    ∷ Type-of.Unknown  -- 05
+    ∷ Type-of.Known T.I16  -- 06
+    ∷ Type-of.Unknown  -- 07
+    ∷ Type-of.Known T.I32  -- 08
+    ∷ Type-of.Unknown  -- 09
+    ∷ Type-of.Known T.I64  -- 0A
+    ∷ Type-of.Known T.String  -- 0B
+    ∷ Type-of.Known T.Struct  -- 0C
+    ∷ Type-of.Known T.Map  -- 0D
+    ∷ Type-of.Known T.Set  -- 0E
+    ∷ Type-of.Known T.List  -- 0F
+    ∷ Type-of.Known T.Uuid  -- 10
     ∷ []
 
 abbrev pub typeOf : ℕ → Typed
@@ -85,13 +85,14 @@ messageByte M.Reply = 2
 messageByte M.Exception = 3
 messageByte M.OneWay = 4
 
+-- what each byte is read as, from 0 on
 abbrev pub messages : List Messaged
 messages =
-    Message-of.Unknown
-    ∷ Message-of.Known M.Call
-    ∷ Message-of.Known M.Reply
-    ∷ Message-of.Known M.Exception
-    ∷ Message-of.Known M.OneWay
+    Message-of.Unknown  -- 0
+    ∷ Message-of.Known M.Call  -- 1
+    ∷ Message-of.Known M.Reply  -- 2
+    ∷ Message-of.Known M.Exception  -- 3
+    ∷ Message-of.Known M.OneWay  -- 4
     ∷ []
 
 abbrev pub messageOf : ℕ → Messaged

@@ -3,16 +3,13 @@ use Prim.Native.Nat.{ℕ}
 use mathlib.Core.Path.{_≡_, refl, ap}
 use mathlib.Core.List.{List, []}
 use borrow.Author.Tests.{eq-eqb, ne-eqb}
-use mathlib.Core.Bool.{Bool, true, false, cond}
-use lib.Dec.{eqb}
 use lib.ListN.{length}
-use Rattle.wire.specs.Answer.{Answer, gives, refused, mapped}
+use Rattle.wire.specs.Answer.{Answer, gives, refused}
+use Rattle.wire.specs.Writes.{puts}
 use Rattle.wire.proofs.Refusals.{refusalOf, told-back}
 use Rattle.wire.proofs.Unique.{settled}
 use Rattle.config.specs.declared.limit.Limit.{Limit}
 use Rattle.text.specs.Texts.{sizedAt}
-use Rattle.text.proofs.Texts.{Lies, sized-lies}
-use Rattle.tree.proofs.Heads.{clash}
 use Rattle.text.specs.declared.Span.{Span}
 use Rattle.text.specs.declared.Body.the-variants as Body-of
 use Rattle.write.specs.Outputs.{bytesOutput}
@@ -35,21 +32,8 @@ module _ (limit : Limit) (s : List ℕ) (at : ℕ) where
     unfolding frameAt
     a-frame e = simp (ne-eqb _ _ h, ← e)
 
--- a payload lies inside
-pub payload-lies : (limit : Limit) (s : List ℕ) (at : ℕ) {p : Span} {q : ℕ} → gives (frame p) q ≡ frameAt limit s at → Lies (length s) p
-unfolding frameAt
-payload-lies limit s at {p} {q} = go (eqb at (length s))
-  where
-    of-frame : (m : Answer Span) → gives (frame p) q ≡ mapped frame m → gives p q ≡ m
-    of-frame (gives v r) e = cc
-    of-frame (refused n r) e = clash (cc)
-
-    go : (b : Bool) → gives (frame p) q ≡ cond b (gives end at) (mapped frame (sizedAt Body-of.Frame limit s at)) → Lies (length s) p
-    go true e = clash (cc)
-    go false e = sized-lies Body-of.Frame limit s at (of-frame _ e)
-
 module _ (payload : List ℕ) (at : ℕ) where
-  pub empty : length payload ≡ 0 → gives [] at ≡ frameOutput payload at
+  pub empty : length payload ≡ 0 → puts [] ≡ frameOutput payload at
   unfolding frameOutput
   empty e = simp (eq-eqb _ _ e)
 

@@ -5,9 +5,9 @@ use mathlib.Core.List.{List, []}
 use lib.Dec.{eqb}
 use lib.ListN.{length}
 use Rattle.wire.specs.Answer.{Answer, gives, refused, mapped}
-use Rattle.wire.specs.Writes.{writeAt}
+use Rattle.wire.specs.Writes.{Output, puts, writeAt}
 use Rattle.config.specs.declared.limit.Limit.{Limit}
-use Rattle.text.specs.Texts.{sizedAt, bytesIn}
+use Rattle.text.specs.Texts.{span, sizedAt}
 use Rattle.text.specs.declared.Span.{Span}
 use Rattle.text.specs.declared.Body.the-variants as Body-of
 use Rattle.write.specs.Outputs.{bytesOutput}
@@ -23,15 +23,15 @@ frameAt limit s at =
     cond (eqb at (length s)) (gives end at)
     (mapped frame (sizedAt Body-of.Frame limit s at))
 
--- the payload's bytes in what was read: none at the end, and none where the frame is refused
-abbrev pub payloadIn : List ℕ → Answer Next → List ℕ
-payloadIn s (gives (frame p) next) = bytesIn s p
-payloadIn s (gives end next) = []
-payloadIn s (refused n p) = []
+-- the payload in what was read: at the end an empty one
+abbrev pub payloadOf : Answer Next → Answer Span
+payloadOf (gives (frame p) next) = gives p next
+payloadOf (gives end next) = gives (span next next) next
+payloadOf (refused n p) = refused n p
 
 -- "an empty payload writes nothing; else length and payload", with 16
-unfoldable pub frameOutput : List ℕ → ℕ → Answer (List ℕ)
-frameOutput payload at = cond (eqb (length payload) 0) (gives [] at) (bytesOutput payload at)
+unfoldable pub frameOutput : List ℕ → ℕ → Output
+frameOutput payload at = cond (eqb (length payload) 0) (puts []) (bytesOutput payload at)
 
 -- what writing a frame comes to, in a buffer at a place
 abbrev pub frameWrite : List ℕ → List ℕ → ℕ → Answer (List ℕ)

@@ -8,7 +8,8 @@ use wire::cursor::Moved;
 use wire::refusal::Refusal;
 ghost use mathlib.Core.Path.{_≡_};
 ghost use Rattle.wire.specs.Writes.{Wrote};
-ghost use Rattle.framed.specs.Frames.{frameAt, payloadIn, frameWrite};
+ghost use Rattle.text.specs.Texts.{partFound};
+ghost use Rattle.framed.specs.Frames.{frameAt, payloadOf, frameWrite};
 ghost use Rattle.framed.specs.Told.{toldFrame};
 
 // A frame by the place of its payload, with the cursor after it, or no more bytes.
@@ -36,7 +37,7 @@ pub fn read_frame(bytes: &[u8], cursor: Cursor, config: TConfiguration) -> Frame
 // The very bytes of the payload that `read_frame` finds, none at the end and where it refuses. Refuses nothing.
 // 00 00 00 01 61 at 0 gives 61; 00 00 00 02 61 at 0 gives none.
 pub fn payload_part(bytes: &[u8], cursor: Cursor, config: TConfiguration) -> &[u8]
-    ensures { λ r. ⌜ now r ≡ payloadIn (now (bytes .entry)) (frameAt (config .«max_frame_size») (now (bytes .entry)) (cursor .at)) ⌝ }
+    ensures { λ r. ⌜ now r ≡ partFound (now (bytes .entry)) (payloadOf (frameAt (config .«max_frame_size») (now (bytes .entry)) (cursor .at))) ⌝ }
 {
     match read_frame(bytes, cursor, config) {
         FrameRead::Frame(payload, _) => text::part(bytes, payload),

@@ -1,24 +1,22 @@
 -- The cases of a message's header, each from what leads to it. Assumes nothing.
 use Prim.Native.Nat.{ℕ, _+_, _<_, _≤_}
 use mathlib.Core.Path.{_≡_}
-use mathlib.Core.Bool.{Bool, true, false, not, cond}
+use mathlib.Core.Bool.{Bool, true, false}
 use mathlib.Core.List.{List}
 use borrow.Author.Tests.{lt-ltb, le-ltb, eq-eqb, ne-eqb}
-use lib.Dec.{ltb, eqb}
 use lib.IntN.{ℤ}
-use lib.ListN.{length, getD}
+use lib.ListN.{getD}
 use Rattle.wire.specs.Answer.{Answer, gives, refused, refuseIf, andThen, within}
 use Rattle.codes.specs.Codes.{messageOf}
 use Rattle.codes.specs.declared.TMessageType.{TMessageType}
 use Rattle.codes.specs.declared.Messaged.the-variants as Message-of
-use Rattle.wire.proofs.Answers.{first-fault, goes-on, passed, went}
+use Rattle.wire.proofs.Answers.{first-fault, goes-on}
 use Rattle.number.specs.Reads.{byteAt, i32At}
 use Rattle.config.specs.declared.limit.Limit.{Limit}
 use Rattle.text.specs.declared.Span.{Span}
 use Rattle.message.specs.declared.TMessageIdentifier.{TMessageIdentifier}
 use Rattle.text.specs.Texts.{stringAt}
 use Rattle.message.specs.Messages.{messageTypeAt, message, sequenceAt, versionedAt, unversionedAt, messageAt}
-use Rattle.text.proofs.Texts.{Lies, string-lies}
 
 module _ (s : List ℕ) (at : ℕ) where
   pub no-message-byte : {n p : ℕ} → refused n p ≡ byteAt s at → refused n p ≡ messageTypeAt s at
@@ -100,41 +98,3 @@ module _ (strict : Bool) (limit : Limit) (s : List ℕ) (at : ℕ) where
         pub newer : {r : Answer TMessageIdentifier} → getD s (at + 1) 0 ≡ 0x01 → r ≡ versionedAt limit s (at + 3) → r ≡ messageAt strict limit s at
         unfolding messageAt andThen refuseIf
         newer j f = rw (← e, le-ltb _ _ h, eq-eqb _ _ i, eq-eqb _ _ j) f
-
--- the name of what was read lies inside
-name-in-named : (name : Span) (t : TMessageType) (s : List ℕ) (at : ℕ) {m : TMessageIdentifier} {q : ℕ} → gives m q ≡ sequenceAt name t s at → m .name ≡ name
-unfolding sequenceAt
-name-in-named name t s at {m} {q} e =
-    let a = went (i32At s at) _ e in
-    let same : m ≡ message name t (a .value) = cc (a .on) in
-    rw same
-
-module _ (limit : Limit) (s : List ℕ) where
-  versioned-lies : (at : ℕ) {m : TMessageIdentifier} {q : ℕ} → gives m q ≡ versionedAt limit s at → Lies (length s) (m .name)
-  unfolding versionedAt
-  versioned-lies at e =
-      let a = went (messageTypeAt s at) _ e in
-      let b = went (stringAt limit s (a .place)) _ (a .on) in
-      rw (name-in-named (b .value) (a .value) s (b .place) (b .on)) (string-lies limit s (a .place) (b .gave))
-
-  unversioned-lies : (at : ℕ) {m : TMessageIdentifier} {q : ℕ} → gives m q ≡ unversionedAt limit s at → Lies (length s) (m .name)
-  unfolding unversionedAt
-  unversioned-lies at e =
-      let a = went (stringAt limit s at) _ e in
-      let b = went (messageTypeAt s (a .place)) _ (a .on) in
-      rw (name-in-named (a .value) (b .value) s (b .place) (b .on)) (string-lies limit s at (a .gave))
-
-  pub name-lies : (strict : Bool) (at : ℕ) {m : TMessageIdentifier} {q : ℕ} → gives m q ≡ messageAt strict limit s at
-      → Lies (length s) (m .name)
-  unfolding messageAt
-  name-lies strict at {m} {q} e = by-layout (ltb (getD s at 0) 0x80) (went (within s at 4) _ e .on)
-    where
-      by-layout : (b : Bool)
-          → gives m q
-          ≡ cond b (refuseIf strict 3 at (unversionedAt limit s at))
-          (refuseIf (not (eqb (getD s at 0) 0x80)) 3 at
-          (refuseIf (not (eqb (getD s (at + 1) 0) 0x01)) 3 at
-          (versionedAt limit s (at + 3))))
-          → Lies (length s) (m .name)
-      by-layout true f = unversioned-lies at (passed strict 3 at _ f .gave)
-      by-layout false f = versioned-lies (at + 3) (passed _ 3 at _ (passed _ 3 at _ f .gave) .gave)

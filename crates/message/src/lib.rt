@@ -14,7 +14,7 @@ ghost use mathlib.Core.Path.{_≡_};
 ghost use Rattle.wire.specs.Answer.{stayAt};
 ghost use Rattle.wire.specs.Refusals.{toldMoved};
 ghost use Rattle.message.specs.Messages.{messageTypeAt, sequenceAt, unversionedAt, versionedAt, messageAt, nameOf};
-ghost use Rattle.text.specs.Texts.{partOf};
+ghost use Rattle.text.specs.Texts.{partFound};
 ghost use Rattle.message.specs.Told.{toldMessageType, toldMessage};
 
 pub struct TMessageIdentifier {
@@ -157,7 +157,7 @@ pub fn read_message_end(bytes: &[u8], cursor: Cursor) -> Moved
 // The very bytes of the name that `read_message_begin` finds, none where it refuses. Refuses nothing.
 // 00 00 00 02 61 62 01 00 00 00 07 at 0 gives 61 62; in strict mode it gives none.
 pub fn name_part(bytes: &[u8], cursor: Cursor, strict: bool, config: TConfiguration) -> &[u8]
-    ensures { λ r. ⌜ now r ≡ partOf (now (bytes .entry)) (nameOf (messageAt strict (config .«max_string_size») (now (bytes .entry)) (cursor .at))) ⌝ }
+    ensures { λ r. ⌜ now r ≡ partFound (now (bytes .entry)) (nameOf (messageAt strict (config .«max_string_size») (now (bytes .entry)) (cursor .at))) ⌝ }
 {
     match read_message_begin(bytes, cursor, strict, config) {
         MessageRead::Value(message, _) => {

@@ -13,11 +13,11 @@ use Rattle.probe_rows.specs.declared.Row.{Row}
 use Rattle.probe_rows.specs.declared.Stepped.{Stepped}
 use Rattle.probe_rows.specs.declared.Stepped.the-variants as To
 use Rattle.probe_rows.specs.Rows.{rowBy, noneRow}
-use Rattle.probe_writes.specs.Writes.{Does, puts, stays, nothing, WriteSays}
+use Rattle.probe_writes.specs.Writes.{Does, writes, stays, nothing, WriteSays}
 
 -- a writer's promise, and the row made of its answer
 pub put-down : {m : Moved} {w : Row} {write : Answer (List ℕ)} {new old : List ℕ} → Wrote m new old write → w ≡ rowBy noneRow (toldMoved m)
-    → WriteSays (puts write) (To.Set w) new old
+    → WriteSays (writes write) (To.Set w) new old
 put-down p e = record { came = ap To.Set (e ∙ ap (rowBy noneRow) (p .answer)); holds = p .buffer }
 
 pub stayed : {w w' : Row} {old : List ℕ} → w ≡ w' → WriteSays (stays w') (To.Set w) old old

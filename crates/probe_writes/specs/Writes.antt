@@ -11,7 +11,7 @@ use mir.Syntax.{w8, w16, w32, w64}
 use mir.Val.{toZ}
 use Rattle.wire.specs.Answer.{Answer, judged, stayAt}
 use Rattle.codes.specs.Codes.{messageOf}
-use Rattle.wire.specs.Writes.{putAt, left}
+use Rattle.wire.specs.Writes.{left}
 use Rattle.codes.specs.declared.TType.{TType}
 use Rattle.codes.specs.declared.Typed.{Typed}
 use Rattle.codes.specs.declared.Typed.the-variants as Type-of
@@ -97,17 +97,17 @@ stillRow Q.MapEnd c out at = rowBy noneRow (stayAt out at)
 
 -- what a step does: a write, a row with the buffer as it was, or nothing as there is no such step or type
 pub data Does : Type 0 where
-  puts : Answer (List ℕ) → Does
+  writes : Answer (List ℕ) → Does
   stays : Row → Does
   nothing : Does
 
 abbrev pub comesTo : Does → Stepped
-comesTo (puts w) = To.Set (rowBy noneRow (judged w))
+comesTo (writes w) = To.Set (rowBy noneRow (judged w))
 comesTo (stays w) = To.Set w
 comesTo nothing = To.Unknown
 
 abbrev pub buffer : Does → List ℕ → List ℕ
-buffer (puts w) old = left w old
+buffer (writes w) old = left w old
 buffer (stays w) old = old
 buffer nothing old = old
 
@@ -121,26 +121,26 @@ ifType (Type-of.Known t) does = does t
 ifType Type-of.Unknown does = nothing
 
 abbrev pub headedDoes : Headed → Writing → List ℕ → ℕ → Does
-headedDoes h c out at = ifType (kindOf (c .kind)) λ t. puts (headedWrite h t c out at)
+headedDoes h c out at = ifType (kindOf (c .kind)) λ t. writes (headedWrite h t c out at)
 
 abbrev pub mapDoes : Writing → List ℕ → ℕ → Does
 mapDoes c out at =
     ifType (kindOf (c .kind)) λ k.
     ifType (kindOf (c .other)) λ v.
-    puts (mapAsked k v c out at)
+    writes (mapAsked k v c out at)
 
 abbrev pub messageBy : Messaged → Writing → List ℕ → List ℕ → ℕ → Does
-messageBy (Message-of.Known t) c name out at = puts (messageWrite (c .strict) name t (low32 (c .number)) out at)
+messageBy (Message-of.Known t) c name out at = writes (messageWrite (c .strict) name t (low32 (c .number)) out at)
 messageBy Message-of.Unknown c name out at = nothing
 
 abbrev pub messageDoes : Writing → List ℕ → List ℕ → ℕ → Does
 messageDoes c name out at = messageBy (messageOf (c .kind)) c name out at
 
 abbrev pub uuidDoes : List ℕ → List ℕ → ℕ → Does
-uuidDoes text out at = cond (eqb (length text) 16) (puts (uuidWrite text out at)) nothing
+uuidDoes text out at = cond (eqb (length text) 16) (writes (uuidWrite text out at)) nothing
 
 abbrev pub doesOf : WriteStep → Writing → List ℕ → List ℕ → Does
-doesOf (Write.Put p) c text out = puts (putWrite p (c .number) text out (c .place))
+doesOf (Write.Put p) c text out = writes (putWrite p (c .number) text out (c .place))
 doesOf (Write.Headed h) c text out = headedDoes h c out (c .place)
 doesOf Write.Map c text out = mapDoes c out (c .place)
 doesOf Write.Message c text out = messageDoes c text out (c .place)

@@ -5,7 +5,7 @@ use mathlib.Core.List.{List, [], _∷_}
 use native.Mathlib.Omega.{arith}
 use borrow.Author.Needs.{needs}
 use Rattle.wire.specs.Answer.{gives, refused, refuseIf, andThen, stayAt, within, itemAt}
-use Rattle.wire.specs.Writes.{roomFor, laid, writeAt}
+use Rattle.wire.specs.Writes.{roomFor, laid, unlessFails, writeAt}
 use Rattle.codes.proofs.Tables.{Each, entry}
 use Rattle.codes.specs.declared.TType.{TType}
 use Rattle.codes.specs.declared.TType.the-variants as T
@@ -14,7 +14,7 @@ use Rattle.number.specs.BigEndian.{big, bytesOf}
 use Rattle.number.specs.Reads.{numberAt}
 use Rattle.number.proofs.Widths.{Octets}
 use Rattle.utf8.specs.UpTo.{table as utf8Table, fits, width, widths, upTo}
-use Rattle.text.specs.Texts.{sizeAt, limitedAt, sizedAt, stringAt}
+use Rattle.text.specs.Texts.{sizeAt, limitedAt, sizedAt, partMarked, stringAt}
 use Rattle.read.specs.Headers.{typeAt, fieldAt, countAt, listAt}
 use Rattle.nesting.specs.Structs.{structBeginAt}
 use Rattle.message.specs.Messages.{messageTypeAt, sequenceAt, versionedAt, unversionedAt, messageAt}
@@ -89,7 +89,7 @@ negative =
     steps.leaf-answers binary binary-reads defaultLimits s 0 64 0 (octets s (search needs)) T.String (λ z. omega arith) refl (refused 6 0) refl
 
 pub every-case : Every table
-unfolding messageAt versionedAt unversionedAt messageTypeAt sequenceAt frameAt stringAt upTo widths width fits utf8Table sizedAt limitedAt sizeAt numberAt itemAt stayAt within refuseIf andThen big bytesOf fieldOutput writeAt roomFor laid
+unfolding messageAt versionedAt unversionedAt messageTypeAt sequenceAt frameAt stringAt upTo widths width fits utf8Table sizedAt partMarked limitedAt sizeAt numberAt itemAt stayAt within refuseIf andThen big bytesOf fieldOutput unlessFails writeAt roomFor laid
 every-case = (
   (refl, refl),
   (

@@ -9,7 +9,7 @@ use Rattle.codes.specs.declared.TType.{TType}
 use Rattle.codes.specs.declared.TType.the-variants as T
 use Rattle.codes.specs.declared.TMessageType.the-variants as M
 use Rattle.config.specs.Limits.{defaultLimits}
-use Rattle.text.specs.Texts.{span, partOf}
+use Rattle.text.specs.Texts.{span, partFound}
 use Rattle.message.specs.Messages.{message, messageAt, nameOf}
 use Rattle.message.specs.declared.TMessageIdentifier.{TMessageIdentifier}
 use Rattle.tree.specs.Answers.{Outcome, ended, cut-off, SkipAnswers}
@@ -32,7 +32,7 @@ pub data Case : Type 0 where
 
 -- What the call's promise comes to is the case's answer. The skip's promise is a relation: it admits the answer, and admits no other
 abbrev pub Settled : Case → Type 0
-Settled (message-read strict s name x) = (messageAt strict (defaultLimits .«max_string_size») s 0 ≡ x) × (partOf s (nameOf x) ≡ name)
+Settled (message-read strict s name x) = (messageAt strict (defaultLimits .«max_string_size») s 0 ≡ x) × (partFound s (nameOf x) ≡ name)
 Settled (skipped t depth s x) =
     SkipAnswers binary defaultLimits s 0 depth 0 t x × ((r : Skipped) → SkipSays defaultLimits s 0 depth 0 t r → toldSkipped r ≡ x)
 Settled (frame-read s x) = frameAt (defaultLimits .«max_frame_size») s 0 ≡ x

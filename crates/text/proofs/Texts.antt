@@ -3,14 +3,14 @@ use Prim.Native.Nat.{ℕ, _-_, _<_, _≤_}
 use native.Mathlib.Omega.{arith}
 use borrow.Author.Tests.{lt-ltb, le-ltb}
 use lib.Dec.{ltb}
-use mathlib.Core.Path.{_≡_, refl, sym, _∙_, ap}
+use mathlib.Core.Path.{_≡_, refl, _∙_, ap}
 use mathlib.Core.Bool.{Bool, true, false, cond}
 use mathlib.Core.List.{List, []}
 use lib.IntN.{ℤ, pos, negsuc, natAbs}
 use mir.Syntax.{w32}
 use mir.Val.{ofZ}
 use lib.Signed.{ltZ}
-use lib.ListN.{length}
+use lib.ListN.{length, take, drop}
 use Rattle.wire.specs.Answer.{Answer, gives, refused, refuseIf, andThen, within}
 use Rattle.wire.proofs.Answers.{first-fault, goes-on, passed, went}
 use Rattle.number.specs.Reads.{i32At}
@@ -21,7 +21,7 @@ use Rattle.utf8.specs.UpTo.{upTo}
 use Rattle.text.specs.declared.Span.{Span}
 use Rattle.text.specs.declared.Body.{Body}
 use Rattle.text.specs.declared.Body.the-variants as Body-of
-use Rattle.text.specs.Texts.{span, bytesIn, sizeAt, overNumber, limitedAt, sizedAt, bytesAt, stringAt, uuidAt, partIn, partOf}
+use Rattle.text.specs.Texts.{span, sizeAt, overNumber, limitedAt, sizedAt, partMarked, partFound, bytesAt, stringAt, uuidAt}
 
 plain : (v : ℤ) → ltZ v (pos 0) ≡ false → ofZ w32 v ≡ natAbs v
 plain (pos n) h = refl
@@ -95,17 +95,36 @@ pub record Lies (n : ℕ) (p : Span) : Type 0 where
   pub ordered : p .start ≤ p .end
   pub inside-them : p .end ≤ n
 
--- so many bytes from a place on
-lies : (s : List ℕ) (at w : ℕ) {next : ℕ} → gives tt next ≡ within s at w → Lies (length s) (span at next)
-lies s at w e = let i = inside s at w e in record { ordered = omega arith; inside-them = omega arith }
-
 pub sized-lies : (body : Body) (limit : Limit) (s : List ℕ) (at : ℕ) {p : Span} {q : ℕ} → gives p q ≡ sizedAt body limit s at → Lies (length s) p
 unfolding sizedAt
 sized-lies body limit s at {p} {q} e =
     let a = went (limitedAt body limit s at) _ e in
     let c = went (within s (a .place) (natAbs (a .value))) _ (a .on) in
     let same : p ≡ span (a .place) (c .place) = cc (c .on) in
-    rw same (lies s (a .place) (natAbs (a .value)) (c .gave))
+    let i = inside s (a .place) (natAbs (a .value)) (c .gave) in
+    rw same (record { ordered = omega arith; inside-them = omega arith })
+
+-- the cases of a span
+module _ (s : List ℕ) (p : Span) where
+  pub part-empty : p .end ≤ p .start → [] ≡ partMarked s p
+  unfolding partMarked
+  part-empty h = go (ltb (length s) (p .end))
+    where
+      go : (b : Bool) → [] ≡ cond b [] (take (p .end - p .start) (drop (p .start) s))
+      go true = refl
+      go false = let none : p .end - p .start ≡ 0 = omega arith in rw none refl
+
+  pub part-outside : length s < p .end → [] ≡ partMarked s p
+  unfolding partMarked
+  part-outside h = simp (lt-ltb _ _ h)
+
+  pub part-inside : p .end ≤ length s → take (p .end - p .start) (drop (p .start) s) ≡ partMarked s p
+  unfolding partMarked
+  part-inside h = simp (le-ltb _ _ h)
+
+-- the part of the span that a read gave
+pub handed : (s : List ℕ) {p : Span} {q : ℕ} {m : Answer Span} {r : List ℕ} → gives p q ≡ m → r ≡ partMarked s p → r ≡ partFound s m
+handed s e h = h ∙ ap (partFound s) e
 
 module _ (limit : Limit) (s : List ℕ) (at : ℕ) where
   pub no-text : {n p : ℕ} → refused n p ≡ bytesAt limit s at → refused n p ≡ stringAt limit s at
@@ -113,20 +132,16 @@ module _ (limit : Limit) (s : List ℕ) (at : ℕ) where
   no-text e = first-fault _ e
 
   module _ {p : Span} {next : ℕ} (e : gives p next ≡ bytesAt limit s at) where
-    pub not-utf8 : upTo (bytesIn s p) < length (bytesIn s p) → refused 13 (p .start) ≡ stringAt limit s at
+    pub text-taken : take (p .end - p .start) (drop (p .start) s) ≡ partMarked s p
+    text-taken = part-inside s p (sized-lies Body-of.Text limit s at e .inside-them)
+
+    pub not-utf8 : upTo (partMarked s p) < length (partMarked s p) → refused 13 (p .start) ≡ stringAt limit s at
     unfolding stringAt andThen refuseIf
     not-utf8 h = rw (← e, lt-ltb _ _ h)
 
-    pub string : length (bytesIn s p) ≤ upTo (bytesIn s p) → gives p next ≡ stringAt limit s at
+    pub string : length (partMarked s p) ≤ upTo (partMarked s p) → gives p next ≡ stringAt limit s at
     unfolding stringAt andThen refuseIf
     string h = rw (← e, le-ltb _ _ h)
-
-pub string-lies : (limit : Limit) (s : List ℕ) (at : ℕ) {p : Span} {q : ℕ} → gives p q ≡ stringAt limit s at → Lies (length s) p
-unfolding stringAt
-string-lies limit s at e =
-    let a = went (bytesAt limit s at) _ e in
-    let b = passed _ 13 (a .value .start) (gives (a .value) (a .place)) (a .on) in
-    sized-lies Body-of.Text limit s at (b .gave ∙ a .gave)
 
 module _ (s : List ℕ) (at : ℕ) where
   pub uuid-cut : {n p : ℕ} → refused n p ≡ within s at 16 → refused n p ≡ uuidAt s at
@@ -136,31 +151,3 @@ module _ (s : List ℕ) (at : ℕ) where
   pub uuid : {end : ℕ} → gives tt end ≡ within s at 16 → gives (span at end) end ≡ uuidAt s at
   unfolding uuidAt
   uuid e = goes-on _ e
-
-pub uuid-lies : (s : List ℕ) (at : ℕ) {p : Span} {q : ℕ} → gives p q ≡ uuidAt s at → Lies (length s) p
-unfolding uuidAt
-uuid-lies s at {p} {q} e =
-    let a = went (within s at 16) _ e in
-    let same : p ≡ span at (a .place) = cc (a .on) in
-    rw same (lies s at 16 (a .gave))
-
--- the part of a span, and the part that a read hands out
-module _ (s : List ℕ) (p : Span) where
-  pub part-unordered : p .end < p .start → [] ≡ partIn s p
-  unfolding partIn
-  part-unordered h = go (ltb (length s) (p .end))
-    where
-      go : (b : Bool) → [] ≡ cond b [] (bytesIn s p)
-      go true = refl
-      go false = let none : p .end - p .start ≡ 0 = omega arith in rw none refl
-
-  pub part-outside : length s < p .end → [] ≡ partIn s p
-  unfolding partIn
-  part-outside h = simp (lt-ltb _ _ h)
-
-  pub part-inside : p .end ≤ length s → bytesIn s p ≡ partIn s p
-  unfolding partIn
-  part-inside h = simp (le-ltb _ _ h)
-
-pub handed : (s : List ℕ) {p : Span} {q : ℕ} {m : Answer Span} {r : List ℕ} → Lies (length s) p → gives p q ≡ m → r ≡ partIn s p → r ≡ partOf s m
-handed s {p} l e h = h ∙ sym (part-inside s p (l .inside-them)) ∙ ap (partOf s) e

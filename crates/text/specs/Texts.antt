@@ -47,9 +47,14 @@ sizedAt body limit s at =
     andThen (within s first (natAbs size)) λ _ end.
     gives (span first end) end
 
--- the bytes that stand in a span
-abbrev pub bytesIn : List ℕ → Span → List ℕ
-bytesIn s p = take (p .end - p .start) (drop (p .start) s)
+-- the bytes that a span marks: none where it ends outside, nor where it ends before it starts, as that leaves none to take
+unfoldable pub partMarked : List ℕ → Span → List ℕ
+partMarked s p = cond (ltb (length s) (p .end)) [] (take (p .end - p .start) (drop (p .start) s))
+
+-- the bytes that a read found: none where it refuses
+abbrev pub partFound : List ℕ → Answer Span → List ℕ
+partFound s (gives p next) = partMarked s p
+partFound s (refused n p) = []
 
 -- bytes: no more than that
 abbrev pub bytesAt : Limit → List ℕ → ℕ → Answer Span
@@ -59,18 +64,9 @@ bytesAt = sizedAt Body-of.Text
 unfoldable pub stringAt : Limit → List ℕ → ℕ → Answer Span
 stringAt limit s at =
     andThen (bytesAt limit s at) λ text next.
-    refuseIf (ltb (upTo (bytesIn s text)) (length (bytesIn s text))) 13 (text .start)
+    refuseIf (ltb (upTo (partMarked s text)) (length (partMarked s text))) 13 (text .start)
     (gives text next)
 
 -- a UUID: sixteen bytes, one item
 unfoldable pub uuidAt : List ℕ → ℕ → Answer Span
 uuidAt s at = andThen (within s at 16) λ _ end. gives (span at end) end
-
--- the part that a span marks, none where it ends outside; nor where it ends before it starts, as that leaves no bytes to take
-unfoldable pub partIn : List ℕ → Span → List ℕ
-partIn s p = cond (ltb (length s) (p .end)) [] (bytesIn s p)
-
--- the part that a read hands out: the bytes that it found, none where it refuses
-abbrev pub partOf : List ℕ → Answer Span → List ℕ
-partOf s (gives p next) = bytesIn s p
-partOf s (refused n p) = []

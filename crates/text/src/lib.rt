@@ -9,7 +9,7 @@ use wire::refusal::Refusal;
 ghost use mathlib.Core.Path.{_≡_};
 ghost use Rattle.wire.specs.Refusals.{kindNumber};
 ghost use Rattle.number.specs.Told.{toldI32};
-ghost use Rattle.text.specs.Texts.{overNumber, sizeAt, limitedAt, sizedAt, bytesAt, stringAt, uuidAt, partIn, partOf};
+ghost use Rattle.text.specs.Texts.{overNumber, sizeAt, limitedAt, sizedAt, bytesAt, stringAt, uuidAt, partMarked, partFound};
 ghost use Rattle.text.specs.Told.{toldText};
 
 // From its first byte up to the one after its last.
@@ -148,7 +148,7 @@ pub fn read_uuid(bytes: &[u8], cursor: Cursor) -> TextRead
 // The very bytes in a span, none where it does not lie inside. Refuses nothing.
 // Of 61 62 63, the span 1 to 3 gives 62 63; 2 to 4 and 3 to 1 give none.
 pub fn part(bytes: &[u8], span: Span) -> &[u8]
-    ensures { λ r. ⌜ now r ≡ partIn (now (bytes .entry)) span ⌝ }
+    ensures { λ r. ⌜ now r ≡ partMarked (now (bytes .entry)) span ⌝ }
 {
     let start = span.start;
     let end = span.end;
@@ -164,7 +164,7 @@ pub fn part(bytes: &[u8], span: Span) -> &[u8]
 // The very bytes that `read_bytes` finds, none where it refuses. Refuses nothing.
 // 00 00 00 01 FF at 0 gives FF; 00 00 00 01 at 0 gives none.
 pub fn bytes_part(bytes: &[u8], cursor: Cursor, config: TConfiguration) -> &[u8]
-    ensures { λ r. ⌜ now r ≡ partOf (now (bytes .entry)) (bytesAt (config .«max_string_size») (now (bytes .entry)) (cursor .at)) ⌝ }
+    ensures { λ r. ⌜ now r ≡ partFound (now (bytes .entry)) (bytesAt (config .«max_string_size») (now (bytes .entry)) (cursor .at)) ⌝ }
 {
     match read_bytes(bytes, cursor, config) {
         TextRead::Value(span, _) => part(bytes, span),
@@ -175,7 +175,7 @@ pub fn bytes_part(bytes: &[u8], cursor: Cursor, config: TConfiguration) -> &[u8]
 // The very bytes that `read_string` finds, none where it refuses. Refuses nothing.
 // 00 00 00 02 61 62 at 0 gives 61 62; 00 00 00 01 FF at 0 gives none.
 pub fn string_part(bytes: &[u8], cursor: Cursor, config: TConfiguration) -> &[u8]
-    ensures { λ r. ⌜ now r ≡ partOf (now (bytes .entry)) (stringAt (config .«max_string_size») (now (bytes .entry)) (cursor .at)) ⌝ }
+    ensures { λ r. ⌜ now r ≡ partFound (now (bytes .entry)) (stringAt (config .«max_string_size») (now (bytes .entry)) (cursor .at)) ⌝ }
 {
     match read_string(bytes, cursor, config) {
         TextRead::Value(span, _) => part(bytes, span),
@@ -187,7 +187,7 @@ pub fn string_part(bytes: &[u8], cursor: Cursor, config: TConfiguration) -> &[u8
 // 00 01 02 03 04 05 06 07 08 09 0A 0B 0C 0D 0E 0F at 0 gives these sixteen bytes;
 // without the last byte it gives none.
 pub fn uuid_part(bytes: &[u8], cursor: Cursor) -> &[u8]
-    ensures { λ r. ⌜ now r ≡ partOf (now (bytes .entry)) (uuidAt (now (bytes .entry)) (cursor .at)) ⌝ }
+    ensures { λ r. ⌜ now r ≡ partFound (now (bytes .entry)) (uuidAt (now (bytes .entry)) (cursor .at)) ⌝ }
 {
     match read_uuid(bytes, cursor) {
         TextRead::Value(span, _) => part(bytes, span),

@@ -11,27 +11,27 @@ use Rattle.wire.specs.declared.refusal.Kind.the-variants as K
 -- the kinds from number 0 on; 0 is no refusal's
 kinds : List Kind
 kinds =
-    K.ShortInput
-    ∷ K.ShortInput
-    ∷ K.StartBeyond
-    ∷ K.BadVersion
-    ∷ K.BadMessageType
-    ∷ K.UnknownType
-    ∷ K.NegativeSize
-    ∷ K.StringLimit
-    ∷ K.ContainerLimit
-    ∷ K.MessageLimit
-    ∷ K.SkipDepth
-    ∷ K.StructDepth
-    ∷ K.WrongType
-    ∷ K.NotUtf8
-    ∷ K.NoStructOpen
-    ∷ K.OutputFull
-    ∷ K.TooLong
-    ∷ K.Missing
-    ∷ K.FrameLimit
-    ∷ K.FrameAboveMessage
-    ∷ K.DepthBeyond
+    K.ShortInput  -- 0
+    ∷ K.ShortInput  -- 1
+    ∷ K.StartBeyond  -- 2
+    ∷ K.BadVersion  -- 3
+    ∷ K.BadMessageType  -- 4
+    ∷ K.UnknownType  -- 5
+    ∷ K.NegativeSize  -- 6
+    ∷ K.StringLimit  -- 7
+    ∷ K.ContainerLimit  -- 8
+    ∷ K.MessageLimit  -- 9
+    ∷ K.SkipDepth  -- 10
+    ∷ K.StructDepth  -- 11
+    ∷ K.WrongType  -- 12
+    ∷ K.NotUtf8  -- 13
+    ∷ K.NoStructOpen  -- 14
+    ∷ K.OutputFull  -- 15
+    ∷ K.TooLong  -- 16
+    ∷ K.Missing  -- 17
+    ∷ K.FrameLimit  -- 18
+    ∷ K.FrameAboveMessage  -- 19
+    ∷ K.DepthBeyond  -- 20
     ∷ []
 
 pub kindOf : ℕ → Kind

@@ -12,12 +12,12 @@ use lib.ListN.{length, take, drop, length-append, length-take, length-drop, drop
 use lib.Seq.{take-all, take-at, drop-drop, drop-append-add}
 use Rattle.wire.specs.Answer.{Answer, gives, refused, refuseIf, andThen}
 use Rattle.wire.specs.Refusals.{toldMoved, toldRefusal}
-use Rattle.wire.specs.Writes.{roomFor, laid, writeAt, left, Wrote, inFront}
+use Rattle.wire.specs.Writes.{roomFor, laid, Output, puts, fails, failIf, unlessFails, writeAt, left, Wrote, inFront}
 use Rattle.wire.specs.declared.cursor.Cursor.{Cursor}
 use Rattle.wire.specs.declared.cursor.Moved.{Moved}
 use Rattle.wire.specs.declared.cursor.Moved.the-variants as M
 use Rattle.wire.specs.declared.refusal.Refusal.{Refusal}
-use Rattle.wire.proofs.Answers.{passed, went}
+use Rattle.wire.proofs.Answers.{Passed, passed}
 use Rattle.wire.proofs.Unique.{moved-settled}
 
 module _ (n at w : ℕ) where
@@ -58,42 +58,36 @@ pub wrote : {new old : List ℕ} {c : Cursor} {write : Answer (List ℕ)} → gi
 unfolding left
 wrote e = record { answer = rw (← e); buffer = rw (← e) }
 
-module _ (output : Answer (List ℕ)) (out : List ℕ) (at : ℕ) where
+module _ (output : Output) (out : List ℕ) (at : ℕ) where
   pub write-beyond : length out < at → refused 2 at ≡ writeAt output out at
   unfolding writeAt refuseIf
   write-beyond h = rw (lt-ltb _ _ h)
 
   -- the write's own fault, at a place inside
-  pub write-fault : {n p : ℕ} → at ≤ length out → refused n p ≡ output → refused n p ≡ writeAt output out at
-  unfolding writeAt refuseIf andThen
+  pub write-fault : {n p : ℕ} → at ≤ length out → fails n p ≡ output → refused n p ≡ writeAt output out at
+  unfolding writeAt refuseIf unlessFails
   write-fault h e = rw (le-ltb _ _ h, ← e)
 
   -- room was asked for w bytes, the length of the output
-  module _ {bs : List ℕ} {q : ℕ} (w : ℕ) (e : gives bs q ≡ output) (l : length bs ≡ w) where
+  module _ {bs : List ℕ} (w : ℕ) (e : puts bs ≡ output) (l : length bs ≡ w) where
     pub write-no-room : {n p : ℕ} → refused n p ≡ roomFor (length out) at w → refused n p ≡ writeAt output out at
-    unfolding writeAt andThen refuseIf
+    unfolding writeAt unlessFails andThen refuseIf
     write-no-room {n} {p} f = go (ltb (length out) at) refl
       where
-        go : (b : Bool) → ltb (length out) at ≡ b → refused n p ≡ refuseIf b 2 at (andThen output λ cs _. andThen (roomFor (length out) at (length cs)) λ _ next. gives (laid cs out at) next)
+        go : (b : Bool) → ltb (length out) at ≡ b → refused n p ≡ refuseIf b 2 at (unlessFails output λ cs. andThen (roomFor (length out) at (length cs)) λ _ next. gives (laid cs out at) next)
         go true g = cc (f ∙ sym (no-place (length out) at w (ltb-true (length out) at g)))
         go false g = rw (← e, l, ← f)
 
     pub writes : {next : ℕ} {new : List ℕ} → gives tt next ≡ roomFor (length out) at w → new ≡ laid bs out at → gives new next ≡ writeAt output out at
-    unfolding writeAt andThen refuseIf
+    unfolding writeAt unlessFails andThen refuseIf
     writes f g = let i = has-room (length out) at w f in rw (← e, l, i .inside, ← f, g)
 
--- a write that was accepted had no fault of its own: the bytes that it put down
-pub record Put (output : Answer (List ℕ)) : Type 0 where
-  pub bytes : List ℕ
-  pub place : ℕ
-  pub gave : gives bytes place ≡ output
-
-pub put-down : (output : Answer (List ℕ)) (out : List ℕ) (at : ℕ) {new : List ℕ} {next : ℕ} → gives new next ≡ writeAt output out at → Put output
-unfolding writeAt
-put-down output out at e =
-    let a = passed (ltb (length out) at) 2 at _ e in
-    let b = went output _ (a .gave) in
-    record { bytes = b .value; place = b .place; gave = b .gave }
+-- where it went on past an output, the output had passed its test
+pub unfailed : {A : Type 0} (b : Bool) (n p : ℕ) (output : Output) (rest : List ℕ → Answer A) {v : A} {q : ℕ}
+    → gives v q ≡ unlessFails (failIf b n p output) rest → Passed b v q (unlessFails output rest)
+unfolding failIf unlessFails
+unfailed true n p output rest e = let z : _≡_ {A = ℕ} 0 1 = cc in absurd (omega arith)
+unfailed false n p output rest e = record { test = refl; gave = e }
 
 -- what a leaf puts in front of the part that it was lent stands in the whole buffer
 module _ (bs out : List ℕ) (at : ℕ) where
@@ -156,9 +150,9 @@ pub laid-none : (out : List ℕ) (at : ℕ) → laid [] out at ≡ out
 unfolding laid
 laid-none out at = simp (append-nil, add-zero) (take-append-drop at out)
 
-pub nothing-put : (output : Answer (List ℕ)) (out : List ℕ) (at : ℕ) {q : ℕ} {r : Moved} → gives [] q ≡ output → toldMoved r ≡ roomFor (length out) at 0
+pub nothing-put : (output : Output) (out : List ℕ) (at : ℕ) {r : Moved} → puts [] ≡ output → toldMoved r ≡ roomFor (length out) at 0
     → Wrote r out out (writeAt output out at)
-nothing-put output out at {q} {r} e t = go r t
+nothing-put output out at {r} e t = go r t
   where
     go : (r : Moved) → toldMoved r ≡ roomFor (length out) at 0 → Wrote r out out (writeAt output out at)
     go (M.To c) t = wrote (writes output out at 0 e refl t (sym (laid-none out at)))

@@ -1,7 +1,7 @@
--- What a write into a lent buffer comes to: 01's "Writing and frames", over the bytes that are to be put down.
+-- What a write into a lent buffer comes to: 01's "Writing and frames", over what the call would put down.
 use Prim.Native.Nat.{ℕ, _+_, _-_}
 use mathlib.Core.Path.{_≡_}
-use mathlib.Core.Bool.{cond}
+use mathlib.Core.Bool.{Bool, true, false, cond}
 use mathlib.Core.List.{List, _++_}
 use lib.ListN.{length, take, drop}
 use lib.Dec.{ltb}
@@ -17,17 +17,32 @@ roomFor n at w = entryOf n at (refuseIf (ltb (n - at) w) 15 at (gives tt (at + w
 unfoldable pub laid : List ℕ → List ℕ → ℕ → List ℕ
 laid bs out at = take at out ++ bs ++ drop (at + length bs) out
 
--- A write at a place: 2, then the faults of its own in what it would put down, then 15. It gives the whole buffer and the place after its output
-unfoldable pub writeAt : Answer (List ℕ) → List ℕ → ℕ → Answer (List ℕ)
+-- what a call would put down: its bytes, or the fault of its own that keeps it from it, by 01's number and place
+pub data Output : Type 0 where
+  puts : List ℕ → Output
+  fails : ℕ → ℕ → Output
+
+-- where the test holds, the fault of that number at that place; else the rest
+unfoldable pub failIf : Bool → ℕ → ℕ → Output → Output
+failIf true n p rest = fails n p
+failIf false n p rest = rest
+
+-- the output's own fault is the answer; else the rest goes on with its bytes
+unfoldable pub unlessFails : {A : Type 0} → Output → (List ℕ → Answer A) → Answer A
+unlessFails (puts bs) rest = rest bs
+unlessFails (fails n p) rest = refused n p
+
+-- A write at a place: 2, then the output's own fault, then 15. It gives the whole buffer and the place after the output
+unfoldable pub writeAt : Output → List ℕ → ℕ → Answer (List ℕ)
 writeAt output out at =
     entry out at
-    (andThen output λ bs _.
+    (unlessFails output λ bs.
     andThen (roomFor (length out) at (length bs)) λ _ next.
     gives (laid bs out at) next)
 
 -- a write with no fault of its own
 abbrev pub putAt : List ℕ → List ℕ → ℕ → Answer (List ℕ)
-putAt bs out at = writeAt (gives bs at) out at
+putAt bs out at = writeAt (puts bs) out at
 
 -- the buffer after a write: a refusal "changes no lent byte"
 unfoldable pub left : Answer (List ℕ) → List ℕ → List ℕ

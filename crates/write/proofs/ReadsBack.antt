@@ -14,16 +14,16 @@ use lib.ListN.{length, take, length-take}
 use lib.Seq.{take-append-seam, drop-at}
 use mir.Syntax.{Width, w8, w16, w32, w64}
 use mir.Val.{SFits, bits, toZ, ofZ}
-use Rattle.wire.specs.Answer.{Answer, gives, andThen}
-use Rattle.wire.specs.Writes.{roomFor, laid, writeAt, putAt}
+use Rattle.wire.specs.Answer.{gives}
+use Rattle.wire.specs.Writes.{roomFor, laid, Output, puts, unlessFails, writeAt, putAt}
 use Rattle.wire.proofs.Answers.{passed, went}
-use Rattle.wire.proofs.Writes.{has-room, room-fits, put-down, length-laid}
+use Rattle.wire.proofs.Writes.{has-room, room-fits, length-laid}
 use Rattle.number.specs.BigEndian.{big, bytesOf}
 use Rattle.number.specs.Reads.{numberAt, byteAt, boolAt, i8At, i16At, i32At, i64At, doubleAt}
 use Rattle.number.proofs.Widths.{written, signed-written, length-bytesOf}
 use Rattle.config.specs.Limits.{above}
 use Rattle.config.specs.declared.limit.Limit.{Limit}
-use Rattle.text.specs.Texts.{span, sizedLayout, sizedAt, bytesAt, stringAt, uuidAt}
+use Rattle.text.specs.Texts.{span, sizedLayout, partMarked, sizedAt, bytesAt, stringAt, uuidAt}
 use Rattle.text.proofs.Texts as texts
 use Rattle.text.specs.declared.Body.{Body}
 use Rattle.text.specs.declared.Body.the-variants as Body-of
@@ -32,7 +32,7 @@ use Rattle.tree.proofs.Parts.{part-length, part-split}
 use Rattle.tree.proofs.Reading.{part-within, number-reads}
 use Rattle.binary.proofs.Reading.{sized-reads}
 use Rattle.write.specs.Found.{Found}
-use Rattle.write.specs.Outputs.{bytesOutput, byteWrite, boolWrite, i8Write, i16Write, i32Write, i64Write, doubleWrite, uuidWrite, bytesWrite, stringWrite}
+use Rattle.write.specs.Outputs.{byteWrite, boolWrite, i8Write, i16Write, i32Write, i64Write, doubleWrite, uuidWrite, bytesWrite, stringWrite}
 use Rattle.write.proofs.Outputs.{Name, short, is-short, with-name, written-name}
 
 -- bytes that were laid stand where they were laid
@@ -47,16 +47,20 @@ laid-part bs out at h =
     }
 
 -- what a write put down stands from its place to its end
-pub stands : (output : Answer (List ℕ)) (out : List ℕ) (at : ℕ) {bs new : List ℕ} {q next : ℕ} → gives bs q ≡ output → gives new next ≡ writeAt output out at
+pub stands : (output : Output) (out : List ℕ) (at : ℕ) {bs new : List ℕ} {next : ℕ} → puts bs ≡ output → gives new next ≡ writeAt output out at
     → Part new at next bs
-unfolding writeAt andThen
-stands output out at {bs} {new} {q} {next} e w =
+unfolding writeAt unlessFails
+stands output out at {bs} {new} {next} e w =
     let a = passed (ltb (length out) at) 2 at _ (rw (← e) at w) in
     let b = went (roomFor (length out) at (length bs)) _ (a .gave) in
     let room = room-fits (length out) at (length bs) (b .gave) in
     let buffer : new ≡ laid bs out at = cc (b .on) in
     let place : next ≡ at + length bs = cc (b .on, has-room (length out) at (length bs) (b .gave) .after) in
     rw (buffer, place) (laid-part bs out at room)
+
+-- a part is what a span over it marks
+marked : {s b : List ℕ} {at e : ℕ} → Part s at e b → partMarked s (span at e) ≡ b
+marked {s} {b} {at} {e} p = sym (texts.part-inside s (span at e) (p .within)) ∙ p .bytes
 
 -- a size and its bytes within the reader's limit
 module _ {s : List ℕ} {at e : ℕ} (limit : Limit) (b : List ℕ) (below : above (length b) limit ≡ false) (p : Part s at e (sizedLayout b)) where
@@ -66,7 +70,7 @@ module _ {s : List ℕ} {at e : ℕ} (limit : Limit) (b : List ℕ) (below : abo
       let sp = part-split (bytesOf 4 (length b)) b p in
       let l = part-length (sp .left) in
       let mid : sp .mid ≡ at + 4 = omega (arith, length-bytesOf 4 (length b), l) in
-      record { place = span (at + 4) e; gave = sized-reads body limit b (omega arith) below p; bytes = rw mid at (sp .right .bytes) }
+      record { place = span (at + 4) e; gave = sized-reads body limit b (omega arith) below p; bytes = marked (rw mid at (sp .right)) }
 
   pub string-found : Name b → Found s b (stringAt limit s at) e
   string-found n =
@@ -118,13 +122,13 @@ module _ (out : List ℕ) (at : ℕ) {new : List ℕ} {next : ℕ} where
   pub uuid-back : (id : List ℕ) → length id ≡ 16 → gives new next ≡ uuidWrite id out at → Found new id (uuidAt new at) next
   uuid-back id l e =
       let p = stands _ out at refl e in
-      record { place = span at next; gave = texts.uuid new at (part-within id 16 l p); bytes = p .bytes }
+      record { place = span at next; gave = texts.uuid new at (part-within id 16 l p); bytes = marked p }
 
   -- bytes and strings, within the reader's limit
   module _ (limit : Limit) (b : List ℕ) (below : above (length b) limit ≡ false) where
     pub bytes-back : gives new next ≡ bytesWrite b out at → Found new b (bytesAt limit new at) next
     bytes-back e =
-        let h = is-short b at (put-down (bytesOutput b at) out at e .gave) in
+        let h = is-short b at out e in
         sized-found limit b below (stands _ out at (short b at h) e) Body-of.Text h
 
     pub string-back : gives new next ≡ stringWrite b out at → Found new b (stringAt limit new at) next

@@ -5,9 +5,8 @@ use mathlib.Core.List.{List, [], _∷_}
 use native.Mathlib.Omega.{arith}
 use lib.ListN.{length, take, drop, length-take, length-drop}
 use borrow.Rule.Slice.PartMut.{putMid}
-use Rattle.wire.specs.Answer.{Answer, gives}
 use Rattle.wire.specs.Refusals.{toldMoved}
-use Rattle.wire.specs.Writes.{roomFor, writeAt, Wrote, inFront}
+use Rattle.wire.specs.Writes.{roomFor, Output, puts, writeAt, Wrote, inFront}
 use Rattle.wire.specs.declared.cursor.Cursor.{Cursor}
 use Rattle.wire.specs.declared.cursor.Moved.{Moved}
 use Rattle.wire.specs.declared.cursor.Moved.the-variants as M
@@ -25,12 +24,12 @@ pub part-room : (out : List ℕ) (at w : ℕ) {m : Moved} {c : Cursor} → m ≡
 part-room out at w f t = rw (length-take, length-drop) (omega (arith, room-fits (length out) at w (told-as toldMoved f t)))
 
 -- a writer that hands on to another keeps its promise
-pub for-output : {o o′ : Answer (List ℕ)} {r : Moved} {new old : List ℕ} (out : List ℕ) (at : ℕ) → o ≡ o′ → Wrote r new old (writeAt o out at)
+pub for-output : {o o′ : Output} {r : Moved} {new old : List ℕ} (out : List ℕ) (at : ℕ) → o ≡ o′ → Wrote r new old (writeAt o out at)
     → Wrote r new old (writeAt o′ out at)
 for-output out at e w = rw (← e) w
 
 -- room was asked for w bytes, and that is the output's length
-module _ (output : Answer (List ℕ)) (out : List ℕ) (at w : ℕ) (bs : List ℕ) {q : ℕ} (e : gives bs q ≡ output) (l : length bs ≡ w) {m : Moved}
+module _ (output : Output) (out : List ℕ) (at w : ℕ) (bs : List ℕ) (e : puts bs ≡ output) (l : length bs ≡ w) {m : Moved}
     (t : toldMoved m ≡ roomFor (length out) at w) where
   pub unwritten : {x : Refusal} → m ≡ M.Refused x → Wrote (M.Refused x) out out (writeAt output out at)
   unwritten f = refuses-write (write-no-room output out at w e l (told-as toldMoved f t))

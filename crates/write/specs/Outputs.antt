@@ -9,8 +9,8 @@ use lib.IntN.{ℤ}
 use lib.Ieee.{Float, binary64, toBits}
 use mir.Syntax.{w8, w16, w32, w64}
 use mir.Val.{ofZ}
-use Rattle.wire.specs.Answer.{Answer, gives, refuseIf, entryOf}
-use Rattle.wire.specs.Writes.{putAt, writeAt}
+use Rattle.wire.specs.Answer.{Answer, gives, entryOf}
+use Rattle.wire.specs.Writes.{Output, puts, failIf, unlessFails, putAt, writeAt}
 use Rattle.number.specs.BigEndian.{bytesOf}
 use Rattle.utf8.specs.UpTo.{upTo}
 use Rattle.text.specs.Texts.{sizedLayout}
@@ -21,23 +21,22 @@ boolByte true = 1
 boolByte false = 0
 
 -- "a name, text or frame payload to write is longer than 2,147,483,647 bytes"
-abbrev pub unlessTooLong : {A : Type 0} → List ℕ → ℕ → Answer A → Answer A
-unlessTooLong b at rest = refuseIf (ltb 2147483647 (length b)) 16 at rest
+abbrev pub tooLong : List ℕ → Bool
+tooLong b = ltb 2147483647 (length b)
 
-unfoldable pub bytesOutput : List ℕ → ℕ → Answer (List ℕ)
-bytesOutput b at = unlessTooLong b at (gives (sizedLayout b) at)
+unfoldable pub bytesOutput : List ℕ → ℕ → Output
+bytesOutput b at = failIf (tooLong b) 16 at (puts (sizedLayout b))
 
--- "Names and strings must be UTF-8": else 13, "for writers 0, counted in the name"
-abbrev pub ifName : {A : Type 0} → List ℕ → ℕ → Answer A → Answer A
-ifName name at rest = unlessTooLong name at (refuseIf (ltb (upTo name) (length name)) 13 0 rest)
+-- bytes with a name among them, a string or a message's header. "Names and strings must be UTF-8": else 13, "for writers 0, counted in the name"
+unfoldable pub namedOutput : List ℕ → List ℕ → ℕ → Output
+namedOutput name bs at =
+    failIf (tooLong name) 16 at
+    (failIf (ltb (upTo name) (length name)) 13 0
+    (puts bs))
 
--- what is judged of a name before room is asked: 2 in a buffer of n bytes, then its own faults
+-- what is judged of a name before room is asked: 2 in a buffer of n bytes, then the faults of an output with that name
 unfoldable pub nameChecked : ℕ → ℕ → List ℕ → Answer Unit
-nameChecked n at name = entryOf n at (ifName name at (gives tt at))
-
--- bytes with a name among them: a string, or a message's header
-unfoldable pub namedOutput : List ℕ → List ℕ → ℕ → Answer (List ℕ)
-namedOutput name bs at = ifName name at (gives bs at)
+nameChecked n at name = entryOf n at (unlessFails (namedOutput name [] at) λ _. gives tt at)
 
 -- What each writer of a value comes to, in a buffer at a place: "All numbers are big-endian, signed ones two's complement", by their bits (`ofZ`)
 abbrev pub byteWrite : ℕ → List ℕ → ℕ → Answer (List ℕ)

@@ -9,10 +9,10 @@ use lib.IntN.{ℤ}
 use lib.ListN.{length}
 use mir.Syntax.{w16, w32}
 use mir.Val.{ofZ}
-use Rattle.wire.specs.Answer.{Answer, gives, refused, refuseIf, andThen}
+use Rattle.wire.specs.Answer.{Answer, refused, refuseIf}
 use Rattle.codes.specs.Codes.{typeByte, isStop}
 use Rattle.wire.specs.Refusals.{toldMoved}
-use Rattle.wire.specs.Writes.{writeAt, left, Wrote}
+use Rattle.wire.specs.Writes.{Output, puts, fails, failIf, unlessFails, writeAt, left, Wrote}
 use Rattle.codes.specs.declared.TType.{TType}
 use Rattle.wire.specs.declared.cursor.Moved.{Moved}
 use Rattle.number.specs.BigEndian.{bytesOf}
@@ -24,29 +24,29 @@ use Rattle.write_headers.specs.declared.container.MapType.{MapType}
 use Rattle.write_headers.specs.declared.container.MapType.the-variants as Of-map
 
 module _ (t : TType) (at : ℕ) {i : FieldId} where
-  pub with-id : {id : ℤ} → i ≡ Id.Of id → gives (fieldLayout t (bytesOf 2 (ofZ w16 id))) at ≡ fieldOutput t i at
+  pub with-id : {id : ℤ} → i ≡ Id.Of id → puts (fieldLayout t (bytesOf 2 (ofZ w16 id))) ≡ fieldOutput t i at
   unfolding fieldOutput
   with-id e = rw e
 
   module _ (e : i ≡ Id.Absent) where
-    pub stop-alone : isStop t ≡ true → gives (typeByte t ∷ []) at ≡ fieldOutput t i at
-    unfolding fieldOutput refuseIf
+    pub stop-alone : isStop t ≡ true → puts (typeByte t ∷ []) ≡ fieldOutput t i at
+    unfolding fieldOutput failIf
     stop-alone h = rw (e, h)
 
-    pub no-id : isStop t ≡ false → refused 17 at ≡ fieldOutput t i at
-    unfolding fieldOutput refuseIf
+    pub no-id : isStop t ≡ false → fails 17 at ≡ fieldOutput t i at
+    unfolding fieldOutput failIf
     no-id h = rw (e, h)
 
 module _ (size : ℤ) (at : ℕ) {k : MapType} (v : MapType) where
-  pub no-key : k ≡ Of-map.Absent → refused 17 at ≡ mapOutput k v size at
+  pub no-key : k ≡ Of-map.Absent → fails 17 at ≡ mapOutput k v size at
   unfolding mapOutput
   no-key e = rw e
 
-  pub no-value : {kt : TType} → k ≡ Of-map.Of kt → v ≡ Of-map.Absent → refused 17 at ≡ mapOutput k v size at
+  pub no-value : {kt : TType} → k ≡ Of-map.Of kt → v ≡ Of-map.Absent → fails 17 at ≡ mapOutput k v size at
   unfolding mapOutput
   no-value e f = rw (e, f)
 
-  pub both-types : {kt vt : TType} → k ≡ Of-map.Of kt → v ≡ Of-map.Of vt → gives (mapLayout kt vt (ofZ w32 size)) at ≡ mapOutput k v size at
+  pub both-types : {kt vt : TType} → k ≡ Of-map.Of kt → v ≡ Of-map.Of vt → puts (mapLayout kt vt (ofZ w32 size)) ≡ mapOutput k v size at
   unfolding mapOutput
   both-types e f = rw (e, f)
 
@@ -60,9 +60,9 @@ unfolding refuseIf
 missing-there n at h = rw (le-ltb _ _ h)
 
 -- and is the write's fault
-pub missing-write : (output : Answer (List ℕ)) (out : List ℕ) (at : ℕ) {r : Moved} → refused 17 at ≡ output
+pub missing-write : (output : Output) (out : List ℕ) (at : ℕ) {r : Moved} → fails 17 at ≡ output
     → toldMoved r ≡ refuseIf (ltb (length out) at) 2 at (refused 17 at) → Wrote r out out (writeAt output out at)
-unfolding writeAt andThen refuseIf left
+unfolding writeAt unlessFails refuseIf left
 missing-write output out at {r} e t = rw (← e) (go (ltb (length out) at) t)
   where
     go : (b : Bool) → toldMoved r ≡ refuseIf b 2 at (refused 17 at) → Wrote r out out (refuseIf b 2 at (refused 17 at))

@@ -5,8 +5,8 @@ use mathlib.Core.List.{List, [], _∷_}
 use lib.IntN.{ℤ}
 use mir.Syntax.{w16, w32}
 use mir.Val.{ofZ}
-use Rattle.wire.specs.Answer.{Answer, gives, refused, refuseIf}
-use Rattle.wire.specs.Writes.{putAt, writeAt}
+use Rattle.wire.specs.Answer.{Answer}
+use Rattle.wire.specs.Writes.{Output, puts, fails, failIf, putAt, writeAt}
 use Rattle.codes.specs.Codes.{typeByte, isStop}
 use Rattle.codes.specs.declared.TType.{TType}
 use Rattle.codes.specs.declared.TType.the-variants as T
@@ -18,15 +18,15 @@ use Rattle.write_headers.specs.declared.container.MapType.{MapType}
 use Rattle.write_headers.specs.declared.container.MapType.the-variants as Of-map
 
 -- "an absent id is 17 unless the type is Stop. A Stop with an id writes three bytes, as in the Rust; a Stop without one … one"
-unfoldable pub fieldOutput : TType → FieldId → ℕ → Answer (List ℕ)
-fieldOutput t (Id.Of id) at = gives (fieldLayout t (bytesOf 2 (ofZ w16 id))) at
-fieldOutput t Id.Absent at = refuseIf (not (isStop t)) 17 at (gives (typeByte t ∷ []) at)
+unfoldable pub fieldOutput : TType → FieldId → ℕ → Output
+fieldOutput t (Id.Of id) at = puts (fieldLayout t (bytesOf 2 (ofZ w16 id)))
+fieldOutput t Id.Absent at = failIf (not (isStop t)) 17 at (puts (typeByte t ∷ []))
 
 -- "field id or map type missing"
-unfoldable pub mapOutput : MapType → MapType → ℤ → ℕ → Answer (List ℕ)
-mapOutput Of-map.Absent value size at = refused 17 at
-mapOutput (Of-map.Of k) Of-map.Absent size at = refused 17 at
-mapOutput (Of-map.Of k) (Of-map.Of v) size at = gives (mapLayout k v (ofZ w32 size)) at
+unfoldable pub mapOutput : MapType → MapType → ℤ → ℕ → Output
+mapOutput Of-map.Absent value size at = fails 17 at
+mapOutput (Of-map.Of k) Of-map.Absent size at = fails 17 at
+mapOutput (Of-map.Of k) (Of-map.Of v) size at = puts (mapLayout k v (ofZ w32 size))
 
 -- What each writer of a header comes to, in a buffer at a place
 abbrev pub fieldWrite : TType → FieldId → List ℕ → ℕ → Answer (List ℕ)

@@ -1,11 +1,12 @@
 -- Assumes nothing.
 use borrow.Author.Needs.{needs}
-use mathlib.Core.Path.{refl, ap, _∙_}
+use native.Mathlib.Omega.{arith}
+use mathlib.Core.Path.{ap}
 use Rattle.wire.proofs.Answers.{told-as}
-use Rattle.text.proofs.Texts.{handed}
-use Rattle.framed.specs.Frames.{payloadIn}
+use Rattle.text.proofs.Texts.{part-empty, handed}
+use Rattle.text.specs.Texts.{partFound}
+use Rattle.framed.specs.Frames.{payloadOf}
 use Rattle.framed.specs.Told.{toldFrame}
-use Rattle.framed.proofs.Frames.{payload-lies}
 use Rattle.framed.proofs.payload_part.Statement.{statement}
 use Rattle.framed.proofs.payload_part.Tie as tie
 
@@ -20,6 +21,6 @@ payload-part-spec =
     (λ c. search needs)
     (λ c. search needs)
     (λ c. search needs)
-    (λ c. let e = told-as toldFrame (c .before .before .payload .given .1) (c .before .before .before .before .read-frame .ensures) in handed _ {q = 0} (payload-lies _ _ _ e) refl (c .part .ensures) ∙ ap (payloadIn (c .before .before .before .before .before .before .args .bytes .now)) e)
-    (λ c. ap (payloadIn (c .before .before .before .before .before .args .bytes .now)) (told-as toldFrame (c .before .enum-told .given .1) (c .before .before .before .read-frame .ensures)))
-    (λ c. ap (payloadIn (c .before .before .before .before .before .args .bytes .now)) (told-as toldFrame (c .before .enum-told2 .given .1) (c .before .before .before .read-frame .ensures))))
+    (λ c. handed _ (ap payloadOf (told-as toldFrame (c .before .before .payload .given .1) (c .before .before .before .before .read-frame .ensures))) (c .part .ensures))
+    (λ c. handed _ (ap payloadOf (told-as toldFrame (c .before .enum-told .given .1) (c .before .before .before .read-frame .ensures))) (part-empty _ _ (omega arith)))
+    (λ c. ap (partFound _) (ap payloadOf (told-as toldFrame (c .before .enum-told2 .given .1) (c .before .before .before .read-frame .ensures)))))

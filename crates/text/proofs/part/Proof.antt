@@ -1,7 +1,7 @@
 -- Assumes nothing.
 use borrow.Author.Needs.{needs}
 use native.Mathlib.Omega.{arith}
-use Rattle.text.proofs.Texts.{part-unordered, part-outside, part-inside}
+use Rattle.text.proofs.Texts.{part-empty, part-outside, part-inside}
 use Rattle.text.proofs.part.Statement.{statement}
 use Rattle.text.proofs.part.Tie as tie
 
@@ -10,7 +10,7 @@ part-spec =
     tie.close
     (tie.spec
     (λ c. search needs)
-    (λ c. part-unordered _ _ (omega arith))
+    (λ c. part-empty _ _ (omega arith))
     (λ c. search needs)
     (λ c. part-outside _ _ (omega arith))
     (λ c. search needs)
