@@ -92,7 +92,7 @@ items-is : (c : TConfiguration) (s : List ℕ) (at : ℕ) {x : Items TType} {e :
 items-is c s at {x} {e} o f =
     let m = unmapped asItems (listAt c s at) f in
     let v = m .value in
-    let i = list-is c s at o {t = v .«element_type»} {v = v .size} (m .gave) in
+    let i = list-is c s at o (m .gave) in
     subst (λ (y : Items TType). laws.There s at e (λ b. ListBytes c b y)) (sym (m .seen))
     (record { bytes = listLayout (v .«element_type») (natAbs (v .size)); part = i .part; holds = record { laid = refl; reads = i .reads; fits = i .fits } })
 
@@ -103,7 +103,7 @@ paired-is : (c : TConfiguration) (s : List ℕ) (at : ℕ) {x : Paired TType} {e
 paired-is c s at {x} {e} o f =
     let m = unmapped asPaired (mapAt c s at) f in
     let v = m .value in
-    let i = map-is c s at o {k = v .«key_type»} {v = v .«value_type»} {n = v .size} (m .gave) in
+    let i = map-is c s at o (m .gave) in
     subst (λ (y : Paired TType). laws.There s at e (λ b. MapBytes c b y)) (sym (m .seen))
     (record {
       bytes = mapLayout (v .«key_type») (v .«value_type») (natAbs (v .size));

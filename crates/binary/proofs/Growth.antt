@@ -3,16 +3,13 @@ use Prim.Native.Nat.{ℕ, _+_, _*_, _≤_}
 use mathlib.Core.Path.{_≡_, refl}
 use mathlib.Core.Bool.{Bool, true, false, cond}
 use mathlib.Core.List.{List, [], _++_}
-use lib.IntN.{ℤ, pos, natAbs}
-use lib.Signed.{ltZ}
+use lib.IntN.{pos}
 use lib.ListN.{length}
 use mir.Syntax.{w16, w32}
 use mir.Val.{toZ}
-use native.Mathlib.Omega.{arith}
 use Rattle.wire.specs.Answer.{gives, andThen, within}
 use Rattle.codes.specs.Codes.{isStop, leastSize}
 use Rattle.codes.specs.declared.TType.{TType}
-use Rattle.wire.proofs.Answers.{passed, went}
 use Rattle.number.specs.Reads.{byteAt, i16At, i32At}
 use Rattle.config.specs.declared.configuration.TConfiguration.{TConfiguration}
 use Rattle.text.specs.Texts.{sizeAt, sizedAt, bytesAt, limitedAt}
@@ -20,9 +17,8 @@ use Rattle.text.proofs.Texts.{limited-is}
 use Rattle.text.specs.declared.Body.the-variants as Body-of
 use Rattle.read.specs.Headers.{typeAt, field, fieldAt, countAt, listAt, mapAt}
 use Rattle.tree.specs.Room.{Roomier, Unnamed}
-use Rattle.tree.proofs.Heads.{number-is}
 use Rattle.tree.proofs.Growth.{Grows, grows-same, grows-limit, grows-then, within-grows, number-grows}
-use Rattle.binary.proofs.Heads.{type-is}
+use Rattle.binary.proofs.Heads.{type-is, size-from}
 
 -- bytes appended behind s
 module _ (K : ℕ → Type 0) (s x : List ℕ) (short : K 1 → x ≡ []) where
@@ -45,15 +41,6 @@ module _ (K : ℕ → Type 0) (s x : List ℕ) (short : K 1 → x ≡ []) where
   unfolding sizeAt
   size-grows at h = grows-then K (i32At s at) (i32At (s ++ x) at) _ _ (number-grows K s x short 4 (toZ w32) at h) (λ v q e. grows-same K _)
 
-pub size-onward : (s : List ℕ) (at : ℕ) (v : ℤ) (q : ℕ) → gives v q ≡ sizeAt s at → q ≤ length s
-unfolding sizeAt
-size-onward s at v q e =
-    let a = went (i32At s at) _ e in
-    let b = passed (ltZ (a .value) (pos 0)) 6 at (gives (a .value) (a .place)) (a .on) in
-    let i = number-is 4 (toZ w32) s at (a .gave) in
-    let same : q ≡ a .place = cc (b .gave) in
-    omega (arith, i .end, i .room)
-
 -- limits raised or removed, the depth raised, and bytes appended
 module _ (old new : TConfiguration) (r : Roomier old new) (d e : ℕ) (more : d ≤ e) (s x : List ℕ) where
   abbrev K : ℕ → Type 0
@@ -63,19 +50,19 @@ module _ (old new : TConfiguration) (r : Roomier old new) (d e : ℕ) (more : d 
   unfolding sizedAt limitedAt
   text-grows at h =
       grows-then K (limitedAt Body-of.Text (old .«max_string_size») s at) (limitedAt Body-of.Text (new .«max_string_size») (s ++ x) at) _ _
-      (grows-then K (sizeAt s at) (sizeAt (s ++ x) at) _ _ (size-grows K s x (λ k. k .short refl) at h) (λ v q f.
-      grows-limit K (natAbs v) (old .«max_string_size») (new .«max_string_size») 7 at _ _ (r .string) (λ k. k .string refl) (grows-same K (gives v q))))
-      (λ v q f.
-      grows-then K (within s q (natAbs v)) (within (s ++ x) q (natAbs v)) _ _
-      (within-grows K s x (λ k. k .short refl) q (natAbs v) (size-onward s at v q (limited-is Body-of.Text (old .«max_string_size») s at f .size))) (λ u p g. grows-same K _))
+      (grows-then K (sizeAt s at) (sizeAt (s ++ x) at) _ _ (size-grows K s x (λ k. k .short refl) at h) (λ n q f.
+      grows-limit K n (old .«max_string_size») (new .«max_string_size») 7 at _ _ (r .string) (λ k. k .string refl) (grows-same K (gives n q))))
+      (λ n q f.
+      grows-then K (within s q n) (within (s ++ x) q n) _ _
+      (within-grows K s x (λ k. k .short refl) q n (size-from s at (limited-is Body-of.Text (old .«max_string_size») s at f .size) .1)) (λ u p g. grows-same K _))
 
   pub count-grows : (least at : ℕ) → at ≤ length s → Grows K (countAt old least s at) (countAt new least (s ++ x) at)
   unfolding countAt
   count-grows least at h =
-      grows-then K (sizeAt s at) (sizeAt (s ++ x) at) _ _ (size-grows K s x (λ k. k .short refl) at h) (λ v q f.
-      grows-limit K (natAbs v) (old .«max_container_size») (new .«max_container_size») 8 at _ _ (r .container) (λ k. k .container refl)
-      (grows-limit K (natAbs v * least) (old .«max_message_size») (new .«max_message_size») 9 at _ _ (r .message) (λ k. k .message refl)
-      (grows-same K (gives v q))))
+      grows-then K (sizeAt s at) (sizeAt (s ++ x) at) _ _ (size-grows K s x (λ k. k .short refl) at h) (λ n q f.
+      grows-limit K n (old .«max_container_size») (new .«max_container_size») 8 at _ _ (r .container) (λ k. k .container refl)
+      (grows-limit K (n * least) (old .«max_message_size») (new .«max_message_size») 9 at _ _ (r .message) (λ k. k .message refl)
+      (grows-same K (gives n q))))
 
   pub list-grows : (at : ℕ) → at ≤ length s → Grows K (listAt old s at) (listAt new (s ++ x) at)
   unfolding listAt

@@ -1,6 +1,6 @@
 -- What the headers of `read` say of the bytes. Assumes nothing.
-use Prim.Native.Nat.{ℕ, _+_, _*_, _<_}
-use mathlib.Core.Path.{_≡_, refl, sym, ap, subst₂, subst₃, _∙_}
+use Prim.Native.Nat.{ℕ, _+_, _*_, _<_, _≤_}
+use mathlib.Core.Path.{_≡_, refl, sym, ap, subst₂, _∙_}
 use mathlib.Core.Bool.{Bool, true, false, cond}
 use mathlib.Core.List.{List, [], _∷_, _++_}
 use lib.IntN.{ℤ, pos, natAbs}
@@ -27,7 +27,7 @@ use Rattle.number.proofs.Widths.{Octets, read-written}
 use Rattle.config.specs.Limits.{above}
 use Rattle.config.specs.declared.configuration.TConfiguration.{TConfiguration}
 use Rattle.text.specs.Texts.{sizeAt, sizedAt, bytesAt, limitedAt}
-use Rattle.text.proofs.Texts.{limited-is}
+use Rattle.text.proofs.Texts.{size-below, limited-is}
 use Rattle.text.specs.declared.Span.{Span}
 use Rattle.text.specs.declared.Body.the-variants as Body-of
 use Rattle.codes.specs.declared.TType.the-variants as T
@@ -63,34 +63,43 @@ type-is s at {t} {next} e =
         }
     go b q p Type-of.Unknown f h = clash (cc)
 
--- a 32-bit number that is not negative is its bits, of which the top one is clear
-pub as-it-stands : (n : ℕ) → ltZ (toZ w32 n) (pos 0) ≡ false → (toZ w32 n ≡ pos n) × (n < 2147483648)
+-- a 32-bit number that is not negative is its bits
+pub as-it-stands : (n : ℕ) → ltZ (toZ w32 n) (pos 0) ≡ false → natAbs (toZ w32 n) ≡ n
 as-it-stands n h = go (decLt n 2147483648)
   where
-    go : Dec (n < 2147483648) → (toZ w32 n ≡ pos n) × (n < 2147483648)
-    go (yes i) = (toZ-pos w32 n i, i)
+    go : Dec (n < 2147483648) → natAbs (toZ w32 n) ≡ n
+    go (yes i) = ap natAbs (toZ-pos w32 n i)
     go (no i) = clash (cc (rw (le-ltb n 2147483648 (omega arith)) at h))
 
 -- a size that was read: its four bytes, and that it has 31 bits
-pub record SizeIs (s : List ℕ) (at : ℕ) (v : ℤ) (next : ℕ) : Type 0 where
-  pub part : Part s at next (bytesOf 4 (natAbs v))
-  pub not-negative : natAbs v < 2147483648
+pub record SizeIs (s : List ℕ) (at n next : ℕ) : Type 0 where
+  pub part : Part s at next (bytesOf 4 n)
+  pub not-negative : n < 2147483648
 
-pub size-is : (s : List ℕ) (at : ℕ) → Octets s → {v : ℤ} {next : ℕ} → gives v next ≡ sizeAt s at → SizeIs s at v next
+pub size-is : (s : List ℕ) (at : ℕ) → Octets s → {n next : ℕ} → gives n next ≡ sizeAt s at → SizeIs s at n next
 unfolding sizeAt
-size-is s at o {v} {next} e =
+size-is s at o {n} {next} e =
     let a = went (i32At s at) _ e in
-    let b = passed (ltZ (a .value) (pos 0)) 6 at (gives (a .value) (a .place)) (a .on) in
+    let b = passed (ltZ (a .value) (pos 0)) 6 at (gives (natAbs (a .value)) (a .place)) (a .on) in
     let i = number-is 4 (toZ w32) s at (a .gave) in
-    let same : v ≡ a .value = cc (b .gave) in
+    let same : n ≡ natAbs (a .value) = cc (b .gave) in
     let place : a .place ≡ next = cc (b .gave) in
-    let n = big (take 4 (drop at s)) in
-    let plain = as-it-stands n (ap (λ (z : ℤ). ltZ z (pos 0)) (sym (i .value)) ∙ b .test) in
-    let size : natAbs v ≡ n = ap natAbs (same ∙ i .value ∙ plain .0) in
+    let bits = big (take 4 (drop at s)) in
+    let size : n ≡ bits = same ∙ ap natAbs (i .value) ∙ as-it-stands bits (ap (λ (z : ℤ). ltZ z (pos 0)) (sym (i .value)) ∙ b .test) in
     record {
       part = part-to next (part-is (i .part) (sym (read-written 4 s at o (i .room)) ∙ ap (bytesOf 4) (sym size))) place;
-      not-negative = rw size (plain .1);
+      not-negative = size-below s at e;
     }
+
+-- a size takes four bytes, all of them there
+pub size-from : (s : List ℕ) (at : ℕ) {n next : ℕ} → gives n next ≡ sizeAt s at → (at + 4 ≡ next) × (next ≤ length s)
+unfolding sizeAt
+size-from s at {n} {next} e =
+    let a = went (i32At s at) _ e in
+    let b = passed _ 6 at (gives (natAbs (a .value)) (a .place)) (a .on) in
+    let i = number-is 4 (toZ w32) s at (a .gave) in
+    let same : next ≡ a .place = cc (b .gave) in
+    (omega (arith, i .end), omega (arith, i .end, i .room))
 
 -- a text that was read: its body, behind its length
 pub record TextIs (c : TConfiguration) (s : List ℕ) (at e : ℕ) : Type 0 where
@@ -102,7 +111,7 @@ pub text-is : (c : TConfiguration) (s : List ℕ) (at : ℕ) → Octets s → {p
 unfolding sizedAt
 text-is c s at o {p} {e} h =
     let a = went (limitedAt Body-of.Text (c .«max_string_size») s at) _ h in
-    let n = natAbs (a .value) in
+    let n = a .value in
     let b = limited-is Body-of.Text (c .«max_string_size») s at (a .gave) in
     let w = went (within s (a .place) n) _ (a .on) in
     let i = inside s (a .place) n (w .gave) in
@@ -117,68 +126,59 @@ text-is c s at o {p} {e} h =
     }
 
 -- a container's size that was read
-pub record CountIs (c : TConfiguration) (least : ℕ) (s : List ℕ) (at : ℕ) (v : ℤ) (next : ℕ) : Type 0 where
-  pub part : Part s at next (bytesOf 4 (natAbs v))
-  pub fits : SizeFits c least (natAbs v)
+pub record CountIs (c : TConfiguration) (least : ℕ) (s : List ℕ) (at n next : ℕ) : Type 0 where
+  pub part : Part s at next (bytesOf 4 n)
+  pub fits : SizeFits c least n
 
-pub count-is : (c : TConfiguration) (least : ℕ) (s : List ℕ) (at : ℕ) → Octets s → {v : ℤ} {next : ℕ} → gives v next ≡ countAt c least s at
-    → CountIs c least s at v next
+pub count-is : (c : TConfiguration) (least : ℕ) (s : List ℕ) (at : ℕ) → Octets s → {n next : ℕ} → gives n next ≡ countAt c least s at
+    → CountIs c least s at n next
 unfolding countAt
-count-is c least s at o {v} {next} h =
+count-is c least s at o {n} {next} h =
     let a = went (sizeAt s at) _ h in
-    let n = natAbs (a .value) in
-    let b = passed (above n (c .«max_container_size»)) 8 at _ (a .on) in
-    let d = passed (above (n * least) (c .«max_message_size»)) 9 at (gives (a .value) (a .place)) (b .gave) in
+    let b = passed (above (a .value) (c .«max_container_size»)) 8 at _ (a .on) in
+    let d = passed (above (a .value * least) (c .«max_message_size»)) 9 at (gives (a .value) (a .place)) (b .gave) in
     let z = size-is s at o (a .gave) in
-    let same : a .value ≡ v = cc (d .gave) in
+    let same : a .value ≡ n = cc (d .gave) in
     let place : a .place ≡ next = cc (d .gave) in
-    subst₂ (λ (x : ℤ) (q : ℕ). CountIs c least s at x q) same place
+    subst₂ (λ (x q : ℕ). CountIs c least s at x q) same place
     (record { part = z .part; fits = record { not-negative = z .not-negative; container = b .test; message = d .test } })
 
-pub record ListIs (c : TConfiguration) (s : List ℕ) (at : ℕ) (t : TType) (v : ℤ) (first : ℕ) : Type 0 where
-  pub part : Part s at first (typeByte t ∷ bytesOf 4 (natAbs v))
-  pub reads : Readable t
-  pub fits : SizeFits c (leastSize t) (natAbs v)
+pub record ListIs (c : TConfiguration) (s : List ℕ) (at : ℕ) (l : TListIdentifier) (first : ℕ) : Type 0 where
+  pub part : Part s at first (typeByte (l .«element_type») ∷ bytesOf 4 (natAbs (l .size)))
+  pub reads : Readable (l .«element_type»)
+  pub fits : SizeFits c (leastSize (l .«element_type»)) (natAbs (l .size))
 
-pub list-is : (c : TConfiguration) (s : List ℕ) (at : ℕ) → Octets s → {t : TType} {v : ℤ} {first : ℕ} → gives (list t v) first ≡ listAt c s at
-    → ListIs c s at t v first
+pub list-is : (c : TConfiguration) (s : List ℕ) (at : ℕ) → Octets s → {l : TListIdentifier} {first : ℕ} → gives l first ≡ listAt c s at → ListIs c s at l first
 unfolding listAt
-list-is c s at o {t} {v} {first} h =
+list-is c s at o {l} {first} h =
     let a = went (typeAt s at) _ h in
     let b = went (countAt c (leastSize (a .value)) s (a .place)) _ (a .on) in
     let x = type-is s at (a .gave) in
     let z = count-is c (leastSize (a .value)) s (a .place) o (b .gave) in
-    let same : list (a .value) (b .value) ≡ list t v = cc (b .on) in
-    let type : a .value ≡ t = ap (λ (l : TListIdentifier). l .«element_type») same in
-    let size : b .value ≡ v = ap (λ (l : TListIdentifier). l .size) same in
+    let same : list (a .value) (b .value) ≡ l = cc (b .on) in
     let place : b .place ≡ first = cc (b .on) in
-    subst₃ (λ (u : TType) (x : ℤ) (q : ℕ). ListIs c s at u x q) type size place
+    subst₂ (λ (m : TListIdentifier) (q : ℕ). ListIs c s at m q) same place
     (record { part = part-join (x .part) (z .part); reads = x .reads; fits = z .fits })
 
-pub record MapIs (c : TConfiguration) (s : List ℕ) (at : ℕ) (k v : TType) (n : ℤ) (first : ℕ) : Type 0 where
-  pub part : Part s at first (typeByte k ∷ typeByte v ∷ bytesOf 4 (natAbs n))
-  pub key : Readable k
-  pub value : Readable v
-  pub fits : SizeFits c (leastSize k + leastSize v) (natAbs n)
+pub record MapIs (c : TConfiguration) (s : List ℕ) (at : ℕ) (m : TMapIdentifier) (first : ℕ) : Type 0 where
+  pub part : Part s at first (typeByte (m .«key_type») ∷ typeByte (m .«value_type») ∷ bytesOf 4 (natAbs (m .size)))
+  pub key : Readable (m .«key_type»)
+  pub value : Readable (m .«value_type»)
+  pub fits : SizeFits c (leastSize (m .«key_type») + leastSize (m .«value_type»)) (natAbs (m .size))
 
-pub map-is : (c : TConfiguration) (s : List ℕ) (at : ℕ) → Octets s → {k v : TType} {n : ℤ} {first : ℕ} → gives (map k v n) first ≡ mapAt c s at
-    → MapIs c s at k v n first
+pub map-is : (c : TConfiguration) (s : List ℕ) (at : ℕ) → Octets s → {m : TMapIdentifier} {first : ℕ} → gives m first ≡ mapAt c s at → MapIs c s at m first
 unfolding mapAt
-map-is c s at o {k} {v} {n} {first} h =
+map-is c s at o {m} {first} h =
     let a = went (typeAt s at) _ h in
     let b = went (typeAt s (a .place)) _ (a .on) in
     let d = went (countAt c (leastSize (a .value) + leastSize (b .value)) s (b .place)) _ (b .on) in
     let x = type-is s at (a .gave) in
     let y = type-is s (a .place) (b .gave) in
     let z = count-is c (leastSize (a .value) + leastSize (b .value)) s (b .place) o (d .gave) in
-    let same : map (a .value) (b .value) (d .value) ≡ map k v n = cc (d .on) in
-    let key : a .value ≡ k = ap (λ (m : TMapIdentifier). m .«key_type») same in
-    let value : b .value ≡ v = ap (λ (m : TMapIdentifier). m .«value_type») same in
-    let size : d .value ≡ n = ap (λ (m : TMapIdentifier). m .size) same in
+    let same : map (a .value) (b .value) (d .value) ≡ m = cc (d .on) in
     let place : d .place ≡ first = cc (d .on) in
-    subst₂ (λ (x : ℤ) (q : ℕ). MapIs c s at k v x q) size place
-    (subst₂ (λ (x y : TType). MapIs c s at x y (d .value) (d .place)) key value
-    (record { part = part-join (x .part) (part-join (y .part) (z .part)); key = x .reads; value = y .reads; fits = z .fits }))
+    subst₂ (λ (w : TMapIdentifier) (q : ℕ). MapIs c s at w q) same place
+    (record { part = part-join (x .part) (part-join (y .part) (z .part)); key = x .reads; value = y .reads; fits = z .fits })
 
 -- the type in a field's header
 typeIn : TType → Answer TFieldIdentifier → TType
@@ -235,37 +235,33 @@ stop-is s at {t} {v} {next} g h =
         clash (cc (sym f ∙ ap isStop same ∙ g))
 
 -- a container's header takes a byte for each type and four for the size: at least one
-pub size-from : (c : TConfiguration) (least : ℕ) (s : List ℕ) (at : ℕ) {v : ℤ} {next : ℕ} → gives v next ≡ countAt c least s at → at + 4 ≡ next
-unfolding countAt sizeAt
-size-from c least s at {v} {next} h =
+count-from : (c : TConfiguration) (least : ℕ) (s : List ℕ) (at : ℕ) {n next : ℕ} → gives n next ≡ countAt c least s at → at + 4 ≡ next
+unfolding countAt
+count-from c least s at {n} {next} h =
     let a = went (sizeAt s at) _ h in
     let b = passed _ 8 at _ (a .on) in
     let d = passed _ 9 at (gives (a .value) (a .place)) (b .gave) in
-    let f = went (i32At s at) _ (a .gave) in
-    let g = passed _ 6 at (gives (f .value) (f .place)) (f .on) in
-    let i = number-is 4 (toZ w32) s at (f .gave) in
-    let one : a .place ≡ f .place = cc (g .gave) in
-    let two : next ≡ a .place = cc (d .gave) in
-    omega (arith, i .end)
+    let same : next ≡ a .place = cc (d .gave) in
+    omega (arith, size-from s at (a .gave) .0)
 
-pub list-from : (c : TConfiguration) (s : List ℕ) (at : ℕ) {t : TType} {v : ℤ} {first : ℕ} → gives (list t v) first ≡ listAt c s at → at + 5 ≡ first
+pub list-from : (c : TConfiguration) (s : List ℕ) (at : ℕ) {l : TListIdentifier} {first : ℕ} → gives l first ≡ listAt c s at → at + 5 ≡ first
 unfolding listAt
-list-from c s at {t} {v} {first} h =
+list-from c s at {l} {first} h =
     let a = went (typeAt s at) _ h in
     let b = went (countAt c (leastSize (a .value)) s (a .place)) _ (a .on) in
     let x = part-length (type-is s at (a .gave) .part) in
-    let y = size-from c (leastSize (a .value)) s (a .place) (b .gave) in
+    let y = count-from c (leastSize (a .value)) s (a .place) (b .gave) in
     let last : first ≡ b .place = cc (b .on) in
     omega arith
 
-pub map-from : (c : TConfiguration) (s : List ℕ) (at : ℕ) {k v : TType} {n : ℤ} {first : ℕ} → gives (map k v n) first ≡ mapAt c s at → at + 6 ≡ first
+pub map-from : (c : TConfiguration) (s : List ℕ) (at : ℕ) {m : TMapIdentifier} {first : ℕ} → gives m first ≡ mapAt c s at → at + 6 ≡ first
 unfolding mapAt
-map-from c s at {k} {v} {n} {first} h =
+map-from c s at {m} {first} h =
     let a = went (typeAt s at) _ h in
     let b = went (typeAt s (a .place)) _ (a .on) in
     let d = went (countAt c (leastSize (a .value) + leastSize (b .value)) s (b .place)) _ (b .on) in
     let x = part-length (type-is s at (a .gave) .part) in
     let y = part-length (type-is s (a .place) (b .gave) .part) in
-    let z = size-from c (leastSize (a .value) + leastSize (b .value)) s (b .place) (d .gave) in
+    let z = count-from c (leastSize (a .value) + leastSize (b .value)) s (b .place) (d .gave) in
     let last : first ≡ d .place = cc (d .on) in
     omega arith

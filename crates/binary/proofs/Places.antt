@@ -3,8 +3,7 @@ use Prim.Native.Nat.{ℕ, _+_, _≤_}
 use mathlib.Core.Path.{_≡_}
 use mathlib.Core.Bool.{Bool, true, false, cond}
 use mathlib.Core.List.{List}
-use lib.IntN.{ℤ, pos, natAbs}
-use lib.Signed.{ltZ}
+use lib.IntN.{pos, natAbs}
 use mir.Syntax.{w16, w32}
 use mir.Val.{toZ}
 use native.Mathlib.Omega.{arith}
@@ -13,7 +12,6 @@ use Rattle.codes.specs.Codes.{typeOf, isStop, leastSize}
 use Rattle.codes.specs.declared.TType.{TType}
 use Rattle.codes.specs.declared.Typed.{Typed}
 use Rattle.codes.specs.declared.Typed.the-variants as Type-of
-use Rattle.wire.proofs.Answers.{passed, went}
 use Rattle.number.specs.Reads.{byteAt, i16At, i32At}
 use Rattle.config.specs.declared.limit.Limit.{Limit}
 use Rattle.config.specs.declared.configuration.TConfiguration.{TConfiguration}
@@ -21,9 +19,8 @@ use Rattle.text.specs.Texts.{sizeAt, overNumber, sizedAt, limitedAt}
 use Rattle.text.proofs.Texts.{limited-is}
 use Rattle.text.specs.declared.Body.{Body}
 use Rattle.read.specs.Headers.{known, typeAt, field, fieldAt, countAt, listAt, mapAt}
-use Rattle.tree.proofs.Heads.{number-is}
 use Rattle.tree.proofs.Places.{Later, here-later, gives-later, behind, if-later, then-later, within-later as part-later, number-later as digits-later}
-use Rattle.binary.proofs.Heads.{type-is}
+use Rattle.binary.proofs.Heads.{type-is, size-from}
 
 module _ (s : List ℕ) where
   pub type-later : (at : ℕ) → Later at (typeAt s at)
@@ -46,30 +43,21 @@ module _ (s : List ℕ) where
 
   pub size-later : (at : ℕ) → Later at (sizeAt s at)
   unfolding sizeAt
-  size-later at = then-later at (i32At s at) _ (digits-later s 4 (toZ w32) at) (λ v q e. if-later _ 6 at _ (gives-later v q at))
-
-  pub size-onward : (at : ℕ) (v : ℤ) (q : ℕ) → gives v q ≡ sizeAt s at → at ≤ q
-  unfolding sizeAt
-  size-onward at v q e =
-      let a = went (i32At s at) _ e in
-      let b = passed (ltZ (a .value) (pos 0)) 6 at (gives (a .value) (a .place)) (a .on) in
-      let i = number-is 4 (toZ w32) s at (a .gave) in
-      let same : q ≡ a .place = cc (b .gave) in
-      omega (arith, i .end)
+  size-later at = then-later at (i32At s at) _ (digits-later s 4 (toZ w32) at) (λ v q e. if-later _ 6 at _ (gives-later (natAbs v) q at))
 
   pub sized-later : (body : Body) (l : Limit) (at : ℕ) → Later at (sizedAt body l s at)
   unfolding sizedAt limitedAt
   sized-later body l at =
       then-later at (limitedAt body l s at) _
-      (then-later at (sizeAt s at) _ (size-later at) (λ v q e. if-later _ (overNumber body) at _ (gives-later v q at)))
-      (λ v q e.
-      behind (size-onward at v q (limited-is body l s at e .size)) (then-later q (within s q (natAbs v)) _ (part-later s q (natAbs v)) (λ u r f. gives-later _ r q)))
+      (then-later at (sizeAt s at) _ (size-later at) (λ n q e. if-later _ (overNumber body) at _ (gives-later n q at)))
+      (λ n q e.
+      behind (omega (arith, size-from s at (limited-is body l s at e .size) .0)) (then-later q (within s q n) _ (part-later s q n) (λ u r f. gives-later _ r q)))
 
   module _ (c : TConfiguration) where
     pub count-later : (least at : ℕ) → Later at (countAt c least s at)
     unfolding countAt
     count-later least at =
-        then-later at (sizeAt s at) _ (size-later at) (λ v q e. if-later _ 8 at _ (if-later _ 9 at _ (gives-later v q at)))
+        then-later at (sizeAt s at) _ (size-later at) (λ n q e. if-later _ 8 at _ (if-later _ 9 at _ (gives-later n q at)))
 
     pub list-later : (at : ℕ) → Later at (listAt c s at)
     unfolding listAt

@@ -39,7 +39,7 @@ type-reads {s} {at} {e} t r p =
     let byte : gives (typeByte t) e ≡ byteAt s at = ap (λ (n : ℕ). gives n e) (omega arith) ∙ number-reads (typeByte t ∷ []) 1 (λ (n : ℕ). n) refl p in
     headers.type-known s at byte r
 
-pub size-reads : {s : List ℕ} {at e : ℕ} (n : ℕ) → n < 2147483648 → Part s at e (bytesOf 4 n) → gives (pos n) e ≡ sizeAt s at
+pub size-reads : {s : List ℕ} {at e : ℕ} (n : ℕ) → n < 2147483648 → Part s at e (bytesOf 4 n) → gives n e ≡ sizeAt s at
 size-reads {s} {at} {e} n h p =
     let same : big (bytesOf 4 n) ≡ n = written 4 n ∙ mod-eq-of-lt (omega arith) in
     let value : toZ w32 (big (bytesOf 4 n)) ≡ pos n = ap (toZ w32) same ∙ toZ-pos w32 n h in
@@ -62,17 +62,17 @@ pub text-reads : {s : List ℕ} {at e : ℕ} (c : TConfiguration) (b : List ℕ)
 text-reads c b f p = sized-reads Body-of.Text (c .«max_string_size») b (f .not-negative) (f .string) p
 
 pub count-reads : {s : List ℕ} {at e : ℕ} (c : TConfiguration) (least n : ℕ) → SizeFits c least n → Part s at e (bytesOf 4 n)
-    → gives (pos n) e ≡ countAt c least s at
+    → gives n e ≡ countAt c least s at
 count-reads {s} {at} {e} c least n f p = headers.count c least s at (size-reads n (f .not-negative) p) (f .container) (f .message)
 
 pub list-reads : {s : List ℕ} {at e : ℕ} (c : TConfiguration) (t : TType) (n : ℕ) → Readable t → SizeFits c (leastSize t) n
-    → Part s at e (typeByte t ∷ bytesOf 4 n) → gives (list t (pos n)) e ≡ listAt c s at
+    → Part s at e (typeByte t ∷ bytesOf 4 n) → gives (list t n) e ≡ listAt c s at
 list-reads {s} {at} {e} c t n r f p =
     let sp = part-split (typeByte t ∷ []) (bytesOf 4 n) p in
     headers.a-list c s at (type-reads t r (sp .left)) (count-reads c (leastSize t) n f (sp .right))
 
 pub map-reads : {s : List ℕ} {at e : ℕ} (c : TConfiguration) (k v : TType) (n : ℕ) → Readable k → Readable v → SizeFits c (leastSize k + leastSize v) n
-    → Part s at e (typeByte k ∷ typeByte v ∷ bytesOf 4 n) → gives (map k v (pos n)) e ≡ mapAt c s at
+    → Part s at e (typeByte k ∷ typeByte v ∷ bytesOf 4 n) → gives (map k v n) e ≡ mapAt c s at
 map-reads {s} {at} {e} c k v n rk rv f p =
     let sp = part-split (typeByte k ∷ []) (typeByte v ∷ bytesOf 4 n) p in
     let sq = part-split (typeByte v ∷ []) (bytesOf 4 n) (sp .right) in

@@ -23,7 +23,7 @@ use Rattle.nesting.proofs.Structs.{depth-settled}
 use Rattle.number.proofs.Settled.{byte-settled, bool-settled, i8-settled, i16-settled, i32-settled, i64-settled, double-settled}
 use Rattle.number.specs.BigEndian.{bytesOf}
 use Rattle.number.proofs.Widths.{length-bytesOf}
-use Rattle.text.proofs.Settled.{text-settled}
+use Rattle.text.proofs.Settled.{size-settled, text-settled}
 use Rattle.read.proofs.Settled.{type-settled, field-settled, list-settled, set-settled, map-settled}
 use Rattle.scalar.proofs.Settled.{scalar-settled}
 use Rattle.scalar.specs.Scalars.{scalarAt}
@@ -141,7 +141,7 @@ one-answer =
         λ a b e. i64-settled e refl,
         λ a b e. double-settled e refl,
       );
-      texts = λ a b e. text-settled e refl;
+      texts = (λ a b e. size-settled e refl, λ a b e. text-settled e refl);
       headers = (λ a b e. type-settled e refl, λ a b e. field-settled e refl, λ a b e. list-settled e refl, λ a b e. set-settled e refl, λ a b e. map-settled e refl);
       scalars = λ a b e. scalar-settled e refl;
       messages = (λ a b e. message-settled e refl, λ a b e. message-type-settled e refl);

@@ -29,7 +29,7 @@ use Rattle.number.specs.BigEndian.{bytesOf}
 use Rattle.number.specs.Reads.{numberAt}
 use Rattle.number.specs.Told.{toldByte, toldBool, toldI8, toldI16, toldI32, toldI64, toldDouble}
 use Rattle.text.specs.Texts.{bytesAt, stringAt, uuidAt}
-use Rattle.text.specs.Told.{toldText}
+use Rattle.text.specs.Told.{toldSize, toldText}
 use Rattle.text.specs.declared.Span.{Span}
 use Rattle.read.specs.Headers.{field, fieldAt, list, listAt, asSet, setAt, map, mapAt}
 use Rattle.read.specs.Told.{toldType, toldField, toldList, toldSet, toldMap}
@@ -132,11 +132,11 @@ module _ (out : List ℕ) (at : ℕ) (new : List ℕ) (next : ℕ) where
     pub stop-back : gives new next ≡ stopWrite out at → gives (field Ty.Stop (pos 0)) next ≡ fieldAt new at
     pub stop-field-back : gives new next ≡ fieldWrite Ty.Stop Id.Absent out at → gives (field Ty.Stop (pos 0)) next ≡ fieldAt new at
     pub list-back : (c : TConfiguration) (t : TType) (n : ℕ) → SizeFits c (leastSize (asRead t)) n → gives new next ≡ listWrite t (pos n) out at
-        → gives (list (asRead t) (pos n)) next ≡ listAt c new at
+        → gives (list (asRead t) n) next ≡ listAt c new at
     pub set-back : (c : TConfiguration) (t : TType) (n : ℕ) → SizeFits c (leastSize (asRead t)) n → gives new next ≡ listWrite t (pos n) out at
-        → gives (asSet (list (asRead t) (pos n))) next ≡ setAt c new at
+        → gives (asSet (list (asRead t) n)) next ≡ setAt c new at
     pub map-back : (c : TConfiguration) (k v : TType) (n : ℕ) → SizeFits c (leastSize (asRead k) + leastSize (asRead v)) n
-        → gives new next ≡ mapWrite (Of-map.Of k) (Of-map.Of v) (pos n) out at → gives (map (asRead k) (asRead v) (pos n)) next ≡ mapAt c new at
+        → gives new next ≡ mapWrite (Of-map.Of k) (Of-map.Of v) (pos n) out at → gives (map (asRead k) (asRead v) n) next ≡ mapAt c new at
     -- "a legacy message needs a non-strict reader"
     pub strict-back : (limit : Limit) (name : List ℕ) (t : TMessageType) (seq : ℤ) → above (length name) limit ≡ false → SFits w32 seq → (reader : Bool)
         → gives new next ≡ messageWrite true name t seq out at → Finds (λ (p : Span). message p t seq) new name (messageAt reader limit new at) next
@@ -171,7 +171,7 @@ Known {E} told = (a b : E) → told a ≡ told b → a ≡ b
 -- Worthless: "For each, show that any two answers it admits are equal"
 pub record OneAnswer : Type 0 where
   pub numbers : Known toldByte × Known toldBool × Known toldI8 × Known toldI16 × Known toldI32 × Known toldI64 × Known toldDouble
-  pub texts : Known toldText
+  pub texts : Known toldSize × Known toldText
   pub headers : Known toldType × Known toldField × Known toldList × Known toldSet × Known toldMap
   pub scalars : Known toldScalar
   pub messages : Known toldMessage × Known toldMessageType

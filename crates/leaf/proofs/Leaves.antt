@@ -2,7 +2,6 @@
 use Prim.Native.Nat.{ℕ}
 use mathlib.Core.Path.{_≡_, refl, sym, ap}
 use mathlib.Core.List.{List}
-use lib.IntN.{ℤ, natAbs}
 use Rattle.wire.specs.Answer.{Answer, gives, refused, judged, within}
 use Rattle.wire.specs.declared.refusal.Refusal.{Refusal}
 use Rattle.wire.proofs.Refusals.{refusalOf, told-back}
@@ -17,10 +16,10 @@ use Rattle.leaf.specs.declared.Walked.{Walked}
 use Rattle.leaf.specs.declared.Walked.the-variants as Walk
 
 -- after its size, a text is so many bytes
-pub text-onward : (limit : Limit) (s : List ℕ) (at : ℕ) {v : ℤ} {first : ℕ} → gives v first ≡ limitedAt Body-of.Text limit s at → within s first (natAbs v) ≡ judged (bytesAt limit s at)
-text-onward limit s at {v} {first} e = go (within s first (natAbs v)) refl
+pub text-onward : (limit : Limit) (s : List ℕ) (at : ℕ) {size first : ℕ} → gives size first ≡ limitedAt Body-of.Text limit s at → within s first size ≡ judged (bytesAt limit s at)
+text-onward limit s at {size} {first} e = go (within s first size) refl
   where
-    go : (m : Answer Unit) → within s first (natAbs v) ≡ m → m ≡ judged (bytesAt limit s at)
+    go : (m : Answer Unit) → within s first size ≡ m → m ≡ judged (bytesAt limit s at)
     go (gives u q) f = ap judged (texts.whole Body-of.Text limit s at e (sym f))
     go (refused n p) f = ap judged (texts.cut Body-of.Text limit s at e (sym f))
 

@@ -1,7 +1,7 @@
 // Values with no value in them, passed: scalars, UUIDs and texts.
 use config::configuration::TConfiguration;
-use number::I32Read;
 use text::Body;
+use text::SizeRead;
 use wire::cursor::Cursor;
 use wire::cursor::Moved;
 use wire::refusal::Kind;
@@ -45,7 +45,7 @@ pub fn skip_text(bytes: &[u8], cursor: Cursor, config: TConfiguration) -> Walked
 {
     let limit = config.max_string_size;
     match text::read_limited(bytes, cursor, limit, Body::Text) {
-        I32Read::Value(size, body) => { skip_fixed(bytes, body, sign::bits32(size) as usize) }
-        I32Read::Refused(refusal) => Walked::Refused(refusal, 1),
+        SizeRead::Value(size, body) => skip_fixed(bytes, body, size),
+        SizeRead::Refused(refusal) => Walked::Refused(refusal, 1),
     }
 }

@@ -2,19 +2,20 @@
 use Prim.Native.Nat.{ℕ, _+_, _*_, _-_, _^_, _<_, _≤_}
 use native.Mathlib.Nat.{mul-le-mul-left}
 use native.Mathlib.Omega.{arith}
-use mathlib.Core.Path.{_≡_, ap}
+use mathlib.Core.Path.{_≡_, ap, _∙_}
 use mathlib.Core.Bool.{true, false}
 use mathlib.Core.List.{List}
-use lib.IntN.{ℤ, pos, natAbs}
+use lib.IntN.{ℤ, pos}
 use Rattle.wire.specs.Answer.{gives, refused, refuseIf, andThen, mapped}
 use Rattle.codes.specs.Codes.{typeOf, isStop, leastSize}
 use Rattle.codes.specs.declared.TType.{TType}
 use Rattle.codes.specs.declared.Typed.the-variants as Type-of
-use Rattle.wire.proofs.Answers.{first-fault, goes-on}
+use Rattle.wire.proofs.Answers.{first-fault, goes-on, passed, went}
 use Rattle.number.specs.Reads.{byteAt, i16At}
 use Rattle.config.specs.Limits.{above}
 use Rattle.config.specs.declared.configuration.TConfiguration.{TConfiguration}
 use Rattle.text.specs.Texts.{sizeAt}
+use Rattle.text.proofs.Texts.{size-below}
 use Rattle.read.specs.Headers.{typeAt, field, fieldAt, countAt, list, listAt, asSet, setAt, map, mapAt}
 use Rattle.read.specs.declared.container.TListIdentifier.{TListIdentifier}
 
@@ -54,19 +55,28 @@ module _ (c : TConfiguration) (least : ℕ) (s : List ℕ) (at : ℕ) where
   unfolding countAt
   no-count e = first-fault _ e
 
-  module _ {v : ℤ} {next : ℕ} (e : gives v next ≡ sizeAt s at) where
-    pub too-many : above (natAbs v) (c .«max_container_size») ≡ true → refused 8 at ≡ countAt c least s at
+  module _ {n next : ℕ} (e : gives n next ≡ sizeAt s at) where
+    pub too-many : above n (c .«max_container_size») ≡ true → refused 8 at ≡ countAt c least s at
     unfolding countAt andThen refuseIf
     too-many h = rw (← e, h)
 
-    module _ (h : above (natAbs v) (c .«max_container_size») ≡ false) where
-      pub too-large : above (natAbs v * least) (c .«max_message_size») ≡ true → refused 9 at ≡ countAt c least s at
+    module _ (h : above n (c .«max_container_size») ≡ false) where
+      pub too-large : above (n * least) (c .«max_message_size») ≡ true → refused 9 at ≡ countAt c least s at
       unfolding countAt andThen refuseIf
       too-large i = rw (← e, h, i)
 
-      pub count : above (natAbs v * least) (c .«max_message_size») ≡ false → gives v next ≡ countAt c least s at
+      pub count : above (n * least) (c .«max_message_size») ≡ false → gives n next ≡ countAt c least s at
       unfolding countAt andThen refuseIf
       count i = rw (← e, h, i)
+
+  -- a number of elements is a size: a 32-bit number that is not negative
+  pub count-below : {n next : ℕ} → gives n next ≡ countAt c least s at → n < 2147483648
+  unfolding countAt
+  count-below e =
+      let a = went (sizeAt s at) _ e in
+      let b = passed _ 8 at _ (a .on) in
+      let d = passed _ 9 at (gives (a .value) (a .place)) (b .gave) in
+      size-below s at (d .gave ∙ a .gave)
 
 module _ (c : TConfiguration) (s : List ℕ) (at : ℕ) where
   pub no-element-type : {n p : ℕ} → refused n p ≡ typeAt s at → refused n p ≡ listAt c s at
@@ -78,7 +88,7 @@ module _ (c : TConfiguration) (s : List ℕ) (at : ℕ) where
     unfolding listAt andThen
     no-list f = rw (← e, ← f)
 
-    pub a-list : {size : ℤ} {end : ℕ} → gives size end ≡ countAt c (leastSize t) s next → gives (list t size) end ≡ listAt c s at
+    pub a-list : {size end : ℕ} → gives size end ≡ countAt c (leastSize t) s next → gives (list t size) end ≡ listAt c s at
     unfolding listAt andThen
     a-list f = rw (← e, ← f)
 
@@ -104,7 +114,7 @@ module _ (c : TConfiguration) (s : List ℕ) (at : ℕ) where
       unfolding mapAt andThen
       no-map g = rw (← e, ← f, ← g)
 
-      pub a-map : {size : ℤ} {end : ℕ} → gives size end ≡ countAt c (leastSize k + leastSize v) s next → gives (map k v size) end ≡ mapAt c s at
+      pub a-map : {size end : ℕ} → gives size end ≡ countAt c (leastSize k + leastSize v) s next → gives (map k v size) end ≡ mapAt c s at
       unfolding mapAt andThen
       a-map g = rw (← e, ← f, ← g)
 

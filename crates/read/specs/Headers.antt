@@ -2,7 +2,7 @@
 use Prim.Native.Nat.{ℕ, _+_, _*_}
 use mathlib.Core.Bool.{cond}
 use mathlib.Core.List.{List}
-use lib.IntN.{ℤ, pos, natAbs}
+use lib.IntN.{ℤ, pos}
 use Rattle.wire.specs.Answer.{Answer, gives, refused, refuseIf, andThen, mapped}
 use Rattle.codes.specs.Codes.{typeOf, isStop, leastSize}
 use Rattle.codes.specs.declared.TType.{TType}
@@ -36,15 +36,15 @@ fieldAt s at =
     (andThen (i16At s next) λ id end. gives (field t id) end)
 
 -- a number of elements of at least so many bytes each: "Then 6, 8, 9", and rule 9 counts size times the least bytes
-unfoldable pub countAt : TConfiguration → ℕ → List ℕ → ℕ → Answer ℤ
+unfoldable pub countAt : TConfiguration → ℕ → List ℕ → ℕ → Answer ℕ
 countAt c least s at =
     andThen (sizeAt s at) λ size next.
-    refuseIf (above (natAbs size) (c .«max_container_size»)) 8 at
-    (refuseIf (above (natAbs size * least) (c .«max_message_size»)) 9 at
+    refuseIf (above size (c .«max_container_size»)) 8 at
+    (refuseIf (above (size * least) (c .«max_message_size»)) 9 at
     (gives size next))
 
-abbrev pub list : TType → ℤ → TListIdentifier
-list t size = record { «element_type» = t; size = size }
+abbrev pub list : TType → ℕ → TListIdentifier
+list t size = record { «element_type» = t; size = pos size }
 
 -- "type byte (5), size"
 unfoldable pub listAt : TConfiguration → List ℕ → ℕ → Answer TListIdentifier
@@ -60,8 +60,8 @@ asSet l = record { «element_type» = l .«element_type»; size = l .size }
 unfoldable pub setAt : TConfiguration → List ℕ → ℕ → Answer TSetIdentifier
 setAt c s at = mapped asSet (listAt c s at)
 
-abbrev pub map : TType → TType → ℤ → TMapIdentifier
-map k v size = record { «key_type» = k; «value_type» = v; size = size }
+abbrev pub map : TType → TType → ℕ → TMapIdentifier
+map k v size = record { «key_type» = k; «value_type» = v; size = pos size }
 
 -- "key type (5), value type (5), size"; rule 9 counts "key plus value sizes"
 unfoldable pub mapAt : TConfiguration → List ℕ → ℕ → Answer TMapIdentifier

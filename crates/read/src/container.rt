@@ -2,7 +2,7 @@
 use crate::field::TypeRead;
 use codes::TType;
 use config::configuration::TConfiguration;
-use number::I32Read;
+use text::SizeRead;
 use wire::cursor::Cursor;
 use wire::cursor::Moved;
 use wire::refusal::Kind;
@@ -11,7 +11,7 @@ ghost use mathlib.Core.Path.{_≡_};
 ghost use Prim.Native.Nat.{_≤_};
 ghost use Rattle.wire.specs.Answer.{stayAt};
 ghost use Rattle.wire.specs.Refusals.{toldMoved};
-ghost use Rattle.number.specs.Told.{toldI32};
+ghost use Rattle.text.specs.Told.{toldSize};
 ghost use Rattle.read.specs.Headers.{countAt, listAt, setAt, mapAt};
 ghost use Rattle.read.specs.Told.{toldList, toldSet, toldMap};
 
@@ -52,31 +52,30 @@ pub(crate) fn read_count(
     cursor: Cursor,
     least: usize,
     config: TConfiguration,
-) -> I32Read
+) -> SizeRead
     requires { ⌜ least ≤ 32 ⌝ }
-    ensures { λ r. ⌜ toldI32 r ≡ countAt config least (now (bytes .entry)) (cursor .at) ⌝ }
+    ensures { λ r. ⌜ toldSize r ≡ countAt config least (now (bytes .entry)) (cursor .at) ⌝ }
 {
     let at = cursor.at;
     match text::read_size(bytes, cursor) {
-        I32Read::Value(size, next) => {
+        SizeRead::Value(size, next) => {
             let container = config.max_container_size;
             let message = config.max_message_size;
-            let len = sign::bits32(size) as usize;
-            if container.exceeded_by(len) {
-                return I32Read::Refused(Refusal {
+            if container.exceeded_by(size) {
+                return SizeRead::Refused(Refusal {
                     kind: Kind::ContainerLimit,
                     place: at,
                 });
             }
-            if message.exceeded_by(len * least) {
-                return I32Read::Refused(Refusal {
+            if message.exceeded_by(size * least) {
+                return SizeRead::Refused(Refusal {
                     kind: Kind::MessageLimit,
                     place: at,
                 });
             }
-            I32Read::Value(size, next)
+            SizeRead::Value(size, next)
         }
-        I32Read::Refused(refusal) => I32Read::Refused(refusal),
+        SizeRead::Refused(refusal) => SizeRead::Refused(refusal),
     }
 }
 
@@ -89,10 +88,11 @@ pub fn read_list_begin(bytes: &[u8], cursor: Cursor, config: TConfiguration) -> 
         TypeRead::Value(element_type, next) => {
             let least = codes::min_serialized_size(element_type);
             match read_count(bytes, next, least, config) {
-                I32Read::Value(size, end) => {
+                SizeRead::Value(len, end) => {
+                    let size = len as i32;
                     ListRead::Value(TListIdentifier { element_type, size }, end)
                 }
-                I32Read::Refused(refusal) => ListRead::Refused(refusal),
+                SizeRead::Refused(refusal) => ListRead::Refused(refusal),
             }
         }
         TypeRead::Refused(refusal) => ListRead::Refused(refusal),
@@ -141,15 +141,18 @@ pub fn read_map_begin(bytes: &[u8], cursor: Cursor, config: TConfiguration) -> M
                 let key = codes::min_serialized_size(key_type);
                 let value = codes::min_serialized_size(value_type);
                 match read_count(bytes, next, key + value, config) {
-                    I32Read::Value(size, end) => MapRead::Value(
-                        TMapIdentifier {
-                            key_type,
-                            value_type,
-                            size,
-                        },
-                        end,
-                    ),
-                    I32Read::Refused(refusal) => MapRead::Refused(refusal),
+                    SizeRead::Value(len, end) => {
+                        let size = len as i32;
+                        MapRead::Value(
+                            TMapIdentifier {
+                                key_type,
+                                value_type,
+                                size,
+                            },
+                            end,
+                        )
+                    }
+                    SizeRead::Refused(refusal) => MapRead::Refused(refusal),
                 }
             }
             TypeRead::Refused(refusal) => MapRead::Refused(refusal),

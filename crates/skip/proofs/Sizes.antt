@@ -1,43 +1,44 @@
--- The size in a container's header is not negative, so its bits are the number itself. Assumes nothing.
-use Prim.Native.Nat.{ℕ, _+_}
-use mathlib.Core.Path.{_≡_, ap, _∙_}
+-- The size in a container's header is not negative, so it is a number of elements as it stands. Assumes nothing.
+use Prim.Native.Nat.{ℕ, _+_, _<_}
+use mathlib.Core.Path.{_≡_, subst}
 use mathlib.Core.List.{List}
+use native.Mathlib.Omega.{arith}
+use lib.Dec.{T}
 use lib.IntN.{ℤ, natAbs}
-use mir.Syntax.{w32}
-use mir.Val.{ofZ}
+use lib.Signed.{nonNeg}
+use mir.Syntax.{w32, w64}
+use mir.Val.{Fits, toZ, ofZ}
+use mir.ValLaws.{toZ-pos}
 use Rattle.wire.specs.Answer.{gives}
+use Rattle.wire.proofs.Answers.{went}
 use Rattle.codes.specs.Codes.{leastSize}
-use Rattle.wire.proofs.Answers.{passed, went}
 use Rattle.config.specs.declared.configuration.TConfiguration.{TConfiguration}
-use Rattle.text.specs.Texts.{sizeAt}
-use Rattle.text.proofs.Texts.{size-bits}
 use Rattle.read.specs.Headers.{typeAt, countAt, list, listAt, map, mapAt}
+use Rattle.read.proofs.Headers.{count-below}
 use Rattle.read.specs.declared.container.TListIdentifier.{TListIdentifier}
 use Rattle.read.specs.declared.container.TMapIdentifier.{TMapIdentifier}
 
-count-bits : (c : TConfiguration) (least : ℕ) (s : List ℕ) (at : ℕ) {v : ℤ} {next : ℕ} → gives v next ≡ countAt c least s at → ofZ w32 v ≡ natAbs v
-unfolding countAt
-count-bits c least s at h =
-    let a = went (sizeAt s at) _ h in
-    let b = passed _ 8 at _ (a .on) in
-    let d = passed _ 9 at (gives (a .value) (a .place)) (b .gave) in
-    size-bits s at (d .gave ∙ a .gave)
+-- what `size as usize` asks: no sign is lost, and it fits
+abbrev pub Counts : ℤ → Type 0
+Counts v = T (nonNeg (toZ w32 (ofZ w32 v))) × Fits w64 (natAbs (toZ w32 (ofZ w32 v)))
 
-pub list-bits : (c : TConfiguration) (s : List ℕ) (at : ℕ) {l : TListIdentifier} {first : ℕ} → gives l first ≡ listAt c s at → ofZ w32 (l .size) ≡ natAbs (l .size)
+counts : (n : ℕ) → n < 2147483648 → T (nonNeg (toZ w32 n)) × Fits w64 (natAbs (toZ w32 n))
+counts n h = rw (toZ-pos w32 n h) (tt, record { fits = omega (arith, h) })
+
+pub list-counts : (c : TConfiguration) (s : List ℕ) (at : ℕ) {l : TListIdentifier} {first : ℕ} → gives l first ≡ listAt c s at → Counts (l .size)
 unfolding listAt
-list-bits c s at {l} {first} h =
+list-counts c s at {l} h =
     let a = went (typeAt s at) _ h in
     let b = went (countAt c (leastSize (a .value)) s (a .place)) _ (a .on) in
     let same : list (a .value) (b .value) ≡ l = cc (b .on) in
-    let size : b .value ≡ l .size = ap (λ (x : TListIdentifier). x .size) same in
-    rw size at (count-bits c (leastSize (a .value)) s (a .place) (b .gave))
+    subst (λ (x : TListIdentifier). Counts (x .size)) same (counts (b .value) (count-below c (leastSize (a .value)) s (a .place) (b .gave)))
 
-pub map-bits : (c : TConfiguration) (s : List ℕ) (at : ℕ) {m : TMapIdentifier} {first : ℕ} → gives m first ≡ mapAt c s at → ofZ w32 (m .size) ≡ natAbs (m .size)
+pub map-counts : (c : TConfiguration) (s : List ℕ) (at : ℕ) {m : TMapIdentifier} {first : ℕ} → gives m first ≡ mapAt c s at → Counts (m .size)
 unfolding mapAt
-map-bits c s at {m} {first} h =
+map-counts c s at {m} h =
     let a = went (typeAt s at) _ h in
     let b = went (typeAt s (a .place)) _ (a .on) in
-    let d = went (countAt c (leastSize (a .value) + leastSize (b .value)) s (b .place)) _ (b .on) in
+    let least = leastSize (a .value) + leastSize (b .value) in
+    let d = went (countAt c least s (b .place)) _ (b .on) in
     let same : map (a .value) (b .value) (d .value) ≡ m = cc (d .on) in
-    let size : d .value ≡ m .size = ap (λ (x : TMapIdentifier). x .size) same in
-    rw size at (count-bits c (leastSize (a .value) + leastSize (b .value)) s (b .place) (d .gave))
+    subst (λ (x : TMapIdentifier). Counts (x .size)) same (counts (d .value) (count-below c least s (b .place) (d .gave)))

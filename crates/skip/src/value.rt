@@ -99,8 +99,7 @@ fn skip_list(
     match read::container::read_list_begin(bytes, Cursor { at: start }, config) {
         ListRead::Value(list, first) => {
             let element_type = list.element_type;
-            let size = list.size;
-            let len = sign::bits32(size) as usize;
+            let len = list.size as usize;
             let mut at = first.at;
             let mut count: usize = 1;
             let mut i: usize = 0;
@@ -137,8 +136,7 @@ fn skip_map(
         MapRead::Value(map, first) => {
             let key_type = map.key_type;
             let value_type = map.value_type;
-            let size = map.size;
-            let len = sign::bits32(size) as usize;
+            let len = map.size as usize;
             let mut at = first.at;
             let mut count: usize = 1;
             let mut i: usize = 0;

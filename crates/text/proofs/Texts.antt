@@ -1,19 +1,20 @@
 -- The cases of a size and of a size with its bytes, each from what leads to it. Assumes nothing.
 use Prim.Native.Nat.{ℕ, _-_, _<_, _≤_}
 use native.Mathlib.Omega.{arith}
-use borrow.Author.Tests.{lt-ltb, le-ltb}
-use lib.Dec.{ltb}
-use mathlib.Core.Path.{_≡_, refl, _∙_, ap}
+use borrow.Author.Tests.{ltb-true, lt-ltb, le-ltb}
+use lib.Dec.{T, ltb}
+use mathlib.Core.Path.{_≡_, refl, sym, _∙_, ap}
 use mathlib.Core.Bool.{Bool, true, false, cond}
 use mathlib.Core.List.{List, []}
 use lib.IntN.{ℤ, pos, negsuc, natAbs}
-use mir.Syntax.{w32}
-use mir.Val.{ofZ}
-use lib.Signed.{ltZ}
+use mir.Syntax.{w32, w64}
+use mir.Val.{Fits, toZ}
+use lib.Signed.{ltZ, nonNeg}
 use lib.ListN.{length, take, drop}
-use Rattle.wire.specs.Answer.{Answer, gives, refused, refuseIf, andThen, within}
+use Rattle.wire.specs.Answer.{Answer, gives, refused, refuseIf, andThen, within, itemAt}
 use Rattle.wire.proofs.Answers.{first-fault, goes-on, passed, went}
-use Rattle.number.specs.Reads.{i32At}
+use Rattle.number.specs.BigEndian.{big}
+use Rattle.number.specs.Reads.{numberAt, i32At}
 use Rattle.config.specs.Limits.{above}
 use Rattle.config.specs.declared.limit.Limit.{Limit}
 use Rattle.wire.proofs.Within.{inside}
@@ -23,9 +24,20 @@ use Rattle.text.specs.declared.Body.{Body}
 use Rattle.text.specs.declared.Body.the-variants as Body-of
 use Rattle.text.specs.Texts.{span, sizeAt, overNumber, limitedAt, sizedAt, partMarked, partFound, bytesAt, stringAt, uuidAt}
 
-plain : (v : ℤ) → ltZ v (pos 0) ≡ false → ofZ w32 v ≡ natAbs v
-plain (pos n) h = refl
-plain (negsuc n) h = cc
+-- a 32-bit number that is not negative is below 2 to the 31st
+below : (n : ℕ) → ltZ (toZ w32 n) (pos 0) ≡ false → natAbs (toZ w32 n) < 2147483648
+below n h = go (ltb n 2147483648) refl
+  where
+    go : (b : Bool) → ltb n 2147483648 ≡ b → natAbs (toZ w32 n) < 2147483648
+    go true e = rw e (ltb-true n 2147483648 e)
+    go false e = let y : true ≡ false = rw e at h in let z : _≡_ {A = ℕ} 0 1 = cc in absurd (omega arith)
+
+pub not-negative : (n : ℕ) → ltZ (toZ w32 n) (pos 0) ≡ false → T (nonNeg (toZ w32 n)) × Fits w64 (natAbs (toZ w32 n))
+not-negative n h = (go (toZ w32 n) h, record { fits = omega (arith, below n h) })
+  where
+    go : (v : ℤ) → ltZ v (pos 0) ≡ false → T (nonNeg v)
+    go (pos n) h = tt
+    go (negsuc n) h = let z : _≡_ {A = ℕ} 0 1 = cc in absurd (omega arith)
 
 module _ (s : List ℕ) (at : ℕ) where
   pub no-size : {n p : ℕ} → refused n p ≡ i32At s at → refused n p ≡ sizeAt s at
@@ -37,56 +49,57 @@ module _ (s : List ℕ) (at : ℕ) where
     unfolding sizeAt andThen refuseIf
     negative h = rw (← e, h)
 
-    pub size : ltZ v (pos 0) ≡ false → gives v next ≡ sizeAt s at
+    pub size : ltZ v (pos 0) ≡ false → gives (natAbs v) next ≡ sizeAt s at
     unfolding sizeAt andThen refuseIf
     size h = rw (← e, h)
 
-  -- a size that was read is not negative, so its bits are the number itself
-  pub size-bits : {v : ℤ} {next : ℕ} → gives v next ≡ sizeAt s at → ofZ w32 v ≡ natAbs v
-  unfolding sizeAt
-  size-bits {v} {next} e =
+  pub size-below : {n next : ℕ} → gives n next ≡ sizeAt s at → n < 2147483648
+  unfolding sizeAt numberAt
+  size-below {n} {next} e =
       let a = went (i32At s at) _ e in
-      let b = passed (ltZ (a .value) (pos 0)) 6 at (gives (a .value) (a .place)) (a .on) in
-      let same : v ≡ a .value = cc (b .gave) in
-      plain v (rw same (b .test))
+      let b = passed (ltZ (a .value) (pos 0)) 6 at (gives (natAbs (a .value)) (a .place)) (a .on) in
+      let i = went (itemAt s at 4) _ (a .gave) in
+      let number : a .value ≡ toZ w32 (big (i .value)) = cc (i .on) in
+      let same : natAbs (a .value) ≡ n = cc (b .gave) in
+      rw same at (rw (sym number) at (below (big (i .value)) (rw number at (b .test))))
 
 module _ (body : Body) (limit : Limit) (s : List ℕ) (at : ℕ) where
   pub unlimited : {n p : ℕ} → refused n p ≡ sizeAt s at → refused n p ≡ limitedAt body limit s at
   unfolding limitedAt
   unlimited e = first-fault _ e
 
-  module _ {v : ℤ} {next : ℕ} (e : gives v next ≡ sizeAt s at) where
-    pub too-long : above (natAbs v) limit ≡ true → refused (overNumber body) at ≡ limitedAt body limit s at
+  module _ {n next : ℕ} (e : gives n next ≡ sizeAt s at) where
+    pub too-long : above n limit ≡ true → refused (overNumber body) at ≡ limitedAt body limit s at
     unfolding limitedAt andThen refuseIf
     too-long h = rw (← e, h)
 
-    pub limited : above (natAbs v) limit ≡ false → gives v next ≡ limitedAt body limit s at
+    pub limited : above n limit ≡ false → gives n next ≡ limitedAt body limit s at
     unfolding limitedAt andThen refuseIf
     limited h = rw (← e, h)
 
   -- a size that was read and is within its limit
-  pub record Limited (v : ℤ) (next : ℕ) : Type 0 where
-    pub size : gives v next ≡ sizeAt s at
-    pub test : above (natAbs v) limit ≡ false
+  pub record Limited (n next : ℕ) : Type 0 where
+    pub size : gives n next ≡ sizeAt s at
+    pub test : above n limit ≡ false
 
-  pub limited-is : {v : ℤ} {next : ℕ} → gives v next ≡ limitedAt body limit s at → Limited v next
+  pub limited-is : {n next : ℕ} → gives n next ≡ limitedAt body limit s at → Limited n next
   unfolding limitedAt
-  limited-is {v} {next} e =
+  limited-is {n} {next} e =
       let a = went (sizeAt s at) _ e in
-      let b = passed (above (natAbs (a .value)) limit) (overNumber body) at (gives (a .value) (a .place)) (a .on) in
-      let same : a .value ≡ v = cc (b .gave) in
+      let b = passed (above (a .value) limit) (overNumber body) at (gives (a .value) (a .place)) (a .on) in
+      let same : a .value ≡ n = cc (b .gave) in
       record { size = b .gave ∙ a .gave; test = rw same at (b .test) }
 
   pub unsized : {n p : ℕ} → refused n p ≡ limitedAt body limit s at → refused n p ≡ sizedAt body limit s at
   unfolding sizedAt
   unsized e = first-fault _ e
 
-  module _ {v : ℤ} {first : ℕ} (e : gives v first ≡ limitedAt body limit s at) where
-    pub cut : {n p : ℕ} → refused n p ≡ within s first (natAbs v) → refused n p ≡ sizedAt body limit s at
+  module _ {size first : ℕ} (e : gives size first ≡ limitedAt body limit s at) where
+    pub cut : {n p : ℕ} → refused n p ≡ within s first size → refused n p ≡ sizedAt body limit s at
     unfolding sizedAt andThen
     cut f = rw (← e, ← f)
 
-    pub whole : {end : ℕ} → gives tt end ≡ within s first (natAbs v) → gives (span first end) end ≡ sizedAt body limit s at
+    pub whole : {end : ℕ} → gives tt end ≡ within s first size → gives (span first end) end ≡ sizedAt body limit s at
     unfolding sizedAt andThen
     whole f = rw (← e, ← f)
 
@@ -99,9 +112,9 @@ pub sized-lies : (body : Body) (limit : Limit) (s : List ℕ) (at : ℕ) {p : Sp
 unfolding sizedAt
 sized-lies body limit s at {p} {q} e =
     let a = went (limitedAt body limit s at) _ e in
-    let c = went (within s (a .place) (natAbs (a .value))) _ (a .on) in
+    let c = went (within s (a .place) (a .value)) _ (a .on) in
     let same : p ≡ span (a .place) (c .place) = cc (c .on) in
-    let i = inside s (a .place) (natAbs (a .value)) (c .gave) in
+    let i = inside s (a .place) (a .value) (c .gave) in
     rw same (record { ordered = omega arith; inside-them = omega arith })
 
 -- the cases of a span

@@ -4,14 +4,14 @@ use mathlib.Core.Bool.{cond}
 use mathlib.Core.List.{List, [], _++_}
 use lib.Dec.{ltb}
 use lib.ListN.{length, take, drop}
-use lib.IntN.{ℤ, pos, natAbs}
+use lib.IntN.{pos, natAbs}
 use lib.Signed.{ltZ}
 use Rattle.wire.specs.Answer.{Answer, gives, refused, refuseIf, andThen, within}
 use Rattle.number.specs.BigEndian.{bytesOf}
 use Rattle.number.specs.Reads.{i32At}
 use Rattle.config.specs.Limits.{above}
 use Rattle.config.specs.declared.limit.Limit.{Limit}
-use Rattle.utf8.specs.UpTo.{upTo}
+use Rattle.utf8.specs.UpTo.{notUtf8}
 use Rattle.text.specs.declared.Span.{Span}
 use Rattle.text.specs.declared.Body.{Body}
 use Rattle.text.specs.declared.Body.the-variants as Body-of
@@ -23,11 +23,11 @@ span a e = record { start = a; end = e }
 abbrev pub sizedLayout : List ℕ → List ℕ
 sizedLayout b = bytesOf 4 (length b) ++ b
 
--- a size of 32 bits: 1, then 6 where it is negative
-unfoldable pub sizeAt : List ℕ → ℕ → Answer ℤ
+-- a size of 32 bits: 1, then 6 where it is negative; past that it is a natural number
+unfoldable pub sizeAt : List ℕ → ℕ → Answer ℕ
 sizeAt s at =
     andThen (i32At s at) λ size next.
-    refuseIf (ltZ size (pos 0)) 6 at (gives size next)
+    refuseIf (ltZ size (pos 0)) 6 at (gives (natAbs size) next)
 
 -- what a size above its limit is refused by: a text's, a frame's
 abbrev pub overNumber : Body → ℕ
@@ -35,16 +35,16 @@ overNumber Body-of.Text = 7
 overNumber Body-of.Frame = 18
 
 -- a size within its limit, for what it counts the bytes of
-unfoldable pub limitedAt : Body → Limit → List ℕ → ℕ → Answer ℤ
+unfoldable pub limitedAt : Body → Limit → List ℕ → ℕ → Answer ℕ
 limitedAt body limit s at =
     andThen (sizeAt s at) λ size next.
-    refuseIf (above (natAbs size) limit) (overNumber body) at (gives size next)
+    refuseIf (above size limit) (overNumber body) at (gives size next)
 
 -- such a size, then as many bytes; what is given is where they stand
 unfoldable pub sizedAt : Body → Limit → List ℕ → ℕ → Answer Span
 sizedAt body limit s at =
     andThen (limitedAt body limit s at) λ size first.
-    andThen (within s first (natAbs size)) λ _ end.
+    andThen (within s first size) λ _ end.
     gives (span first end) end
 
 -- the bytes that a span marks: none where it ends outside, nor where it ends before it starts, as that leaves none to take
@@ -64,7 +64,7 @@ bytesAt = sizedAt Body-of.Text
 unfoldable pub stringAt : Limit → List ℕ → ℕ → Answer Span
 stringAt limit s at =
     andThen (bytesAt limit s at) λ text next.
-    refuseIf (ltb (upTo (partMarked s text)) (length (partMarked s text))) 13 (text .start)
+    refuseIf (notUtf8 (partMarked s text)) 13 (text .start)
     (gives text next)
 
 -- a UUID: sixteen bytes, one item

@@ -8,14 +8,18 @@ use wire::refusal::Kind;
 use wire::refusal::Refusal;
 ghost use mathlib.Core.Path.{_≡_};
 ghost use Rattle.wire.specs.Refusals.{kindNumber};
-ghost use Rattle.number.specs.Told.{toldI32};
 ghost use Rattle.text.specs.Texts.{overNumber, sizeAt, limitedAt, sizedAt, bytesAt, stringAt, uuidAt, partMarked, partFound};
-ghost use Rattle.text.specs.Told.{toldText};
+ghost use Rattle.text.specs.Told.{toldSize, toldText};
 
 // From its first byte up to the one after its last.
 pub struct Span {
     pub start: usize,
     pub end: usize,
+}
+
+pub enum SizeRead {
+    Value(usize, Cursor),
+    Refused(Refusal),
 }
 
 pub enum TextRead {
@@ -40,41 +44,41 @@ fn above_limit(body: Body) -> Kind
 
 // A 32-bit size at the cursor, which must not be negative. Refuses 2, 1, 6.
 // 00 00 00 02 at 0 gives 2 and ends at 4; FF FF FF FF at 0 is refused: 6 at 0.
-pub fn read_size(bytes: &[u8], cursor: Cursor) -> I32Read
-    ensures { λ r. ⌜ toldI32 r ≡ sizeAt (now (bytes .entry)) (cursor .at) ⌝ }
+pub fn read_size(bytes: &[u8], cursor: Cursor) -> SizeRead
+    ensures { λ r. ⌜ toldSize r ≡ sizeAt (now (bytes .entry)) (cursor .at) ⌝ }
 {
     let at = cursor.at;
     match number::read_i32(bytes, cursor) {
         I32Read::Value(size, next) => {
             if size < 0 {
-                return I32Read::Refused(Refusal {
+                return SizeRead::Refused(Refusal {
                     kind: Kind::NegativeSize,
                     place: at,
                 });
             }
-            I32Read::Value(size, next)
+            SizeRead::Value(size as usize, next)
         }
-        I32Read::Refused(refusal) => I32Read::Refused(refusal),
+        I32Read::Refused(refusal) => SizeRead::Refused(refusal),
     }
 }
 
 // A size within its limit. Refuses 2, 1, 6, then 7 for a text's and 18 for a frame's.
 // 00 00 00 02 at 0, a text's, limit 2, gives 2 and ends at 4; limit 1 is refused: 7 at 0.
-pub fn read_limited(bytes: &[u8], cursor: Cursor, limit: Limit, body: Body) -> I32Read
-    ensures { λ r. ⌜ toldI32 r ≡ limitedAt body limit (now (bytes .entry)) (cursor .at) ⌝ }
+pub fn read_limited(bytes: &[u8], cursor: Cursor, limit: Limit, body: Body) -> SizeRead
+    ensures { λ r. ⌜ toldSize r ≡ limitedAt body limit (now (bytes .entry)) (cursor .at) ⌝ }
 {
     let at = cursor.at;
     match read_size(bytes, cursor) {
-        I32Read::Value(size, next) => {
-            if limit.exceeded_by(sign::bits32(size) as usize) {
-                return I32Read::Refused(Refusal {
+        SizeRead::Value(size, next) => {
+            if limit.exceeded_by(size) {
+                return SizeRead::Refused(Refusal {
                     kind: above_limit(body),
                     place: at,
                 });
             }
-            I32Read::Value(size, next)
+            SizeRead::Value(size, next)
         }
-        I32Read::Refused(refusal) => I32Read::Refused(refusal),
+        SizeRead::Refused(refusal) => SizeRead::Refused(refusal),
     }
 }
 
@@ -84,9 +88,9 @@ pub fn read_sized(bytes: &[u8], cursor: Cursor, limit: Limit, body: Body) -> Tex
     ensures { λ r. ⌜ toldText r ≡ sizedAt body limit (now (bytes .entry)) (cursor .at) ⌝ }
 {
     match read_limited(bytes, cursor, limit, body) {
-        I32Read::Value(size, first) => {
+        SizeRead::Value(size, first) => {
             let start = first.at;
-            match first.past(bytes, sign::bits32(size) as usize) {
+            match first.past(bytes, size) {
                 Moved::To(next) => {
                     let end = next.at;
                     TextRead::Value(Span { start, end }, next)
@@ -94,7 +98,7 @@ pub fn read_sized(bytes: &[u8], cursor: Cursor, limit: Limit, body: Body) -> Tex
                 Moved::Refused(refusal) => TextRead::Refused(refusal),
             }
         }
-        I32Read::Refused(refusal) => TextRead::Refused(refusal),
+        SizeRead::Refused(refusal) => TextRead::Refused(refusal),
     }
 }
 

@@ -1,7 +1,8 @@
+-- UTF-8 as RFC 3629 has it: how far bytes are well formed.
 use Prim.Native.Nat.{ℕ, zero, suc, _+_}
 use mathlib.Core.Bool.{Bool, true, false, cond, _&&_}
 use mathlib.Core.List.{List, [], _∷_}
-use lib.Dec.{leb}
+use lib.Dec.{leb, ltb}
 use lib.ListN.{length, drop}
 
 -- UTF8-char of RFC 3629, section 4: a row for each form of a character, with the least and the greatest value of each byte
@@ -36,3 +37,7 @@ widths (suc turns) s = width table s + widths turns (drop (width table s) s)
 -- How far s is well formed: as `ValidUpTo` says, and no other place is so (proofs/UpTo)
 unfoldable pub upTo : List ℕ → ℕ
 upTo s = widths (length s) s
+
+-- 13's test: it is not well formed to its end
+abbrev pub notUtf8 : List ℕ → Bool
+notUtf8 s = ltb (upTo s) (length s)

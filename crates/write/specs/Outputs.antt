@@ -12,7 +12,7 @@ use mir.Val.{ofZ}
 use Rattle.wire.specs.Answer.{Answer, gives, entryOf}
 use Rattle.wire.specs.Writes.{Output, puts, failIf, unlessFails, putAt, writeAt}
 use Rattle.number.specs.BigEndian.{bytesOf}
-use Rattle.utf8.specs.UpTo.{upTo}
+use Rattle.utf8.specs.UpTo.{notUtf8}
 use Rattle.text.specs.Texts.{sizedLayout}
 
 -- "A bool writes 0 or 1"
@@ -31,7 +31,7 @@ bytesOutput b at = failIf (tooLong b) 16 at (puts (sizedLayout b))
 unfoldable pub namedOutput : List ℕ → List ℕ → ℕ → Output
 namedOutput name bs at =
     failIf (tooLong name) 16 at
-    (failIf (ltb (upTo name) (length name)) 13 0
+    (failIf (notUtf8 name) 13 0
     (puts bs))
 
 -- what is judged of a name before room is asked: 2 in a buffer of n bytes, then the faults of an output with that name

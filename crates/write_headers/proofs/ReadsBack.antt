@@ -51,16 +51,16 @@ module _ (out : List ℕ) (at : ℕ) {new : List ℕ} {next : ℕ} where
   stop-field-back e = stop-reads (stands _ out at (stop-alone T.Stop at refl refl) e)
 
   pub list-back : (c : TConfiguration) (t : TType) (n : ℕ) → SizeFits c (leastSize (asRead t)) n
-      → gives new next ≡ listWrite t (pos n) out at → gives (list (asRead t) (pos n)) next ≡ listAt c new at
+      → gives new next ≡ listWrite t (pos n) out at → gives (list (asRead t) n) next ≡ listAt c new at
   list-back c t n f e = list-reads c (asRead t) n (reads-as t) f (rw (same-byte t) (stands _ out at refl e))
 
   pub set-back : (c : TConfiguration) (t : TType) (n : ℕ) → SizeFits c (leastSize (asRead t)) n
-      → gives new next ≡ listWrite t (pos n) out at → gives (asSet (list (asRead t) (pos n))) next ≡ setAt c new at
+      → gives new next ≡ listWrite t (pos n) out at → gives (asSet (list (asRead t) n)) next ≡ setAt c new at
   set-back c t n f e = headers.a-set c new at (list-back c t n f e)
 
   pub map-back : (c : TConfiguration) (k v : TType) (n : ℕ) → SizeFits c (leastSize (asRead k) + leastSize (asRead v)) n
       → gives new next ≡ mapWrite (Of-map.Of k) (Of-map.Of v) (pos n) out at
-      → gives (map (asRead k) (asRead v) (pos n)) next ≡ mapAt c new at
+      → gives (map (asRead k) (asRead v) n) next ≡ mapAt c new at
   map-back c k v n f e =
       let p = stands _ out at (both-types (pos n) at (Of-map.Of v) refl refl) e in
       map-reads c (asRead k) (asRead v) n (reads-as k) (reads-as v) f (rw (same-byte k, same-byte v) p)

@@ -1,24 +1,12 @@
 -- Assumes nothing.
 use borrow.Author.Needs.{needs}
 use mathlib.Core.Path.{_≡_, ap, _∙_}
-use lib.IntN.{natAbs}
-use mir.Syntax.{w32}
-use mir.Val.{toZ, ofZ}
-use Rattle.number.specs.Told.{toldI32}
+use Rattle.text.specs.Told.{toldSize}
 use Rattle.wire.proofs.Answers.{told-as}
 use Rattle.wire.specs.Refusals.{toldMoved}
-use Rattle.text.proofs.Texts.{size-bits, limited-is, unsized, cut, whole}
+use Rattle.text.proofs.Texts.{unsized, cut, whole}
 use Rattle.text.proofs.read_sized.Statement.{statement}
 use Rattle.text.proofs.read_sized.Tie as tie
-
--- a signed number that a pattern binds is read again from its bits
-same : (c : tie.After-known-told) → toZ w32 (ofZ w32 (c .before .size .given .0 .0)) ≡ c .before .size .given .0 .0
-same c = search needs
-
-len : (c : tie.After-bits32) → c .bits32 .result ≡ natAbs (c .before .before .size .given .0 .0)
-len c =
-    let n = c .before .before in
-    c .bits32 .ensures ∙ ap (ofZ w32) (same (c .before)) ∙ size-bits _ _ (limited-is _ _ _ _ (told-as toldI32 (n .size .given .1) (n .before .before .read-limited .ensures)) .size)
 
 pub read-sized-spec : {M : Type 1} → statement M
 read-sized-spec =
@@ -28,10 +16,8 @@ read-sized-spec =
     (λ c. search needs)
     (λ c κs. search needs)
     (λ c. search needs)
-    (λ c κs. search needs)
     (λ c. search needs)
     (λ c. search needs)
-    (λ c. search needs)
-    (λ c. whole _ _ _ _ (told-as toldI32 (c .before .before .before .before .before .before .size .given .1) (c .before .before .before .before .before .before .before .before .read-limited .ensures)) (told-as toldMoved (c .before .next .given .1) (rw (len (c .before .before .before .before)) at (c .before .before .before .past .ensures))))
-    (λ c. cut _ _ _ _ (told-as toldI32 (c .before .before .before .before .before .before .size .given .1) (c .before .before .before .before .before .before .before .before .read-limited .ensures)) (told-as toldMoved (c .before .refusal .given .1) (rw (len (c .before .before .before .before)) at (c .before .before .before .past .ensures))))
-    (λ c. unsized _ _ _ _ (told-as toldI32 (c .before .refusal2 .given .1) (c .before .before .before .read-limited .ensures))))
+    (λ c. whole _ _ _ _ (told-as toldSize (c .before .before .before .before .before .size .given .1) (c .before .before .before .before .before .before .before .read-limited .ensures)) (told-as toldMoved (c .before .next .given .1) (c .before .before .before .past .ensures)))
+    (λ c. cut _ _ _ _ (told-as toldSize (c .before .before .before .before .before .size .given .1) (c .before .before .before .before .before .before .before .read-limited .ensures)) (told-as toldMoved (c .before .refusal .given .1) (c .before .before .before .past .ensures)))
+    (λ c. unsized _ _ _ _ (told-as toldSize (c .before .refusal2 .given .1) (c .before .before .before .read-limited .ensures))))

@@ -2,7 +2,6 @@
 -- measures are twice the depth, and one more for a value's. Assumes nothing.
 use mathlib.Core.Path.{_≡_, refl, sym, ap, _∙_}
 use Prim.Native.Nat.{ℕ, _+_, _-_, _<_}
-use lib.IntN.{natAbs}
 use lib.ListN.{length}
 use mir.Syntax.{w32}
 use mir.Val.{toZ, ofZ}
@@ -12,14 +11,13 @@ use Rattle.wire.proofs.Answers.{told-as}
 use Rattle.read.specs.Told.{toldField, toldList, toldMap}
 use Rattle.nesting.specs.Structs.{toldDepth}
 use Rattle.wire.specs.Answer.{mapped, judged}
-use Rattle.read.specs.Headers.{list, map}
 use Rattle.tree.specs.Coding.{fields, items, pairs}
 use Rattle.tree.proofs.Bounds as bounds
 use Rattle.tree.proofs.Steps as tree
 use Rattle.binary.specs.Binary.{seenAs, heading, asItems, asPaired, binary}
 use Rattle.binary.proofs.Binary.{binary-reads, noSlack, binary-weighs}
 use Rattle.binary.proofs.Steps.{leaf-answers, goes, stops, judgedAs}
-use Rattle.skip.proofs.Sizes.{list-bits, map-bits}
+use Rattle.skip.proofs.Sizes.{list-counts, map-counts}
 use Rattle.tree.proofs.Parts.{part-length}
 use Rattle.tree.proofs.Heads.{struct-is}
 use Rattle.binary.proofs.Heads.{field-is}
@@ -38,7 +36,6 @@ use Rattle.skip.proofs.value.+skip_list+skip_map+skip_struct+skip_value
 use Rattle.skip.proofs.value.skip_value.Reads as skip-value
 use Rattle.skip.proofs.value.skip_value.Kinds as skip-value-kinds
 use Rattle.skip.proofs.value.+skip_list+skip_map+skip_struct+skip_value.Lts-skip_value as skip-value-lts
-use Rattle.sign.proofs.bits32.Reads as bits32-reads
 use Rattle.read.proofs.container.read_list_begin.Reads as read-list-begin-reads
 use Rattle.read.proofs.container.read_map_begin.Reads as read-map-begin-reads
 use Rattle.read.proofs.field.read_field_begin.Reads as read-field-begin-reads
@@ -95,10 +92,10 @@ skip-value-below t =
     and 1 skip-value-kinds.ps (falls 1 skip-value-kinds.ps _<_ μ-skip-value t) skip-value.Pre
 
 abbrev skip-list-claims : ℕ → skip-list-lts.Claims
-skip-list-claims t = (read-list-begin-reads.Asked, read-list-begin-reads.Learnt, bits32-reads.Asked, bits32-reads.Learnt, skip-value-below t, skip-value.Post)
+skip-list-claims t = (read-list-begin-reads.Asked, read-list-begin-reads.Learnt, skip-value-below t, skip-value.Post)
 
 abbrev skip-map-claims : ℕ → skip-map-lts.Claims
-skip-map-claims t = (read-map-begin-reads.Asked, read-map-begin-reads.Learnt, bits32-reads.Asked, bits32-reads.Learnt, skip-value-below t, skip-value.Post)
+skip-map-claims t = (read-map-begin-reads.Asked, read-map-begin-reads.Learnt, skip-value-below t, skip-value.Post)
 
 abbrev skip-struct-claims : ℕ → skip-struct-lts.Claims
 skip-struct-claims t = (read-struct-begin-reads.Asked, read-struct-begin-reads.Learnt, read-field-begin-reads.Asked, read-field-begin-reads.Learnt, is-stop-reads.Asked, is-stop-reads.Learnt, read-struct-end-reads.Asked, read-struct-end-reads.Learnt, skip-value-below t, skip-value.Post)
@@ -107,18 +104,18 @@ abbrev skip-value-claims : ℕ → skip-value-lts.Claims
 skip-value-claims t = (refused-reads.Asked, refused-reads.Learnt, shape-of-reads.Asked, shape-of-reads.Learnt, skip-fixed-reads.Asked, skip-fixed-reads.Learnt, skip-text-reads.Asked, skip-text-reads.Learnt, skip-struct-below t, skip-struct.Post, skip-list-below t, skip-list.Post, skip-map-below t, skip-map.Post)
 
 abbrev skip-list-Inv-loop : skip-list-lts.InvT-loop
-skip-list-Inv-loop bytes start depth struct-depth config element-type size len at₀ count₀ i₀ at count i =
-    tree.ListLoop binary config bytes start depth struct-depth (asItems (list element-type (toZ w32 size))) at₀ at count i × (len ≡ natAbs (toZ w32 size))
+skip-list-Inv-loop bytes start depth struct-depth config element-type len at₀ count₀ i₀ at count i =
+    tree.ListLoop binary config bytes start depth struct-depth (record { element = element-type; size = len }) at₀ at count i
 
 abbrev skip-list-μ-loop : skip-list-lts.MeasureT-loop
-skip-list-μ-loop bytes start depth struct-depth config element-type size len at₀ count₀ i₀ at count i = len - i
+skip-list-μ-loop bytes start depth struct-depth config element-type len at₀ count₀ i₀ at count i = len - i
 
 abbrev skip-map-Inv-loop : skip-map-lts.InvT-loop
-skip-map-Inv-loop bytes start depth struct-depth config key-type value-type size len at₀ count₀ i₀ at count i =
-    tree.MapLoop binary config bytes start depth struct-depth (asPaired (map key-type value-type (toZ w32 size))) at₀ at count i × (len ≡ natAbs (toZ w32 size))
+skip-map-Inv-loop bytes start depth struct-depth config key-type value-type len at₀ count₀ i₀ at count i =
+    tree.MapLoop binary config bytes start depth struct-depth (record { key = key-type; value = value-type; size = len }) at₀ at count i
 
 abbrev skip-map-μ-loop : skip-map-lts.MeasureT-loop
-skip-map-μ-loop bytes start depth struct-depth config key-type value-type size len at₀ count₀ i₀ at count i = len - i
+skip-map-μ-loop bytes start depth struct-depth config key-type value-type len at₀ count₀ i₀ at count i = len - i
 
 abbrev skip-struct-Inv-loop : skip-struct-lts.InvT-loop
 skip-struct-Inv-loop bytes start depth struct-depth config inner at₀ count₀ at count =
@@ -135,50 +132,48 @@ pub +skip-list+skip-map+skip-struct+skip-value-spec : {M : Type 1} → statement
     skip-list-μ-loop
     (λ c κs. search needs)
     (λ c. search needs)
-    (λ c κs. search needs)
+    (λ c. list-counts _ _ _ (told-as toldList (c .before .before .before .list .given .1) (c .before .before .before .before .before .read-list-begin .ensures)))
+    (λ c. let same : toZ w32 (ofZ w32 (c .before .before .before .list .given .0 .0 .size)) ≡ c .before .before .before .list .given .0 .0 .size = search needs in rw same (tree.list-start binary binary-reads _ _ _ _ _ (λ i. c .before .before .before .before .before .before .shared-slice-known .given i .fits) (c .before .before .before .before .before .before .before .pre .1) (ap (mapped asItems) (told-as toldList (c .before .before .before .list .given .1) (c .before .before .before .before .before .read-list-begin .ensures)))))
+    (λ c. omega (arith, c .before .loop .inv .deep))
+    (λ c κs. (omega (arith, c .before .before .before .before .before .before .before .before .before .pre .0, c .before .loop .inv .deep), tt))
     (λ c. search needs)
-    (λ c. let same : toZ w32 (ofZ w32 (c .before .before .before .list .given .0 .0 .size)) ≡ c .before .before .before .list .given .0 .0 .size = search needs in rw same (tree.list-start binary binary-reads _ _ _ _ _ (λ i. c .before .before .before .before .before .before .shared-slice-known .given i .fits) (c .before .before .before .before .before .before .before .pre .1) (ap (mapped asItems) (told-as toldList (c .before .before .before .list .given .1) (c .before .before .before .before .before .read-list-begin .ensures))), c .bits32 .ensures ∙ ap (ofZ w32) same ∙ list-bits _ _ _ (told-as toldList (c .before .before .before .list .given .1) (c .before .before .before .before .before .read-list-begin .ensures))))
-    (λ c. omega (arith, c .before .loop .inv .0 .deep))
-    (λ c κs. (omega (arith, c .before .before .before .before .before .before .before .before .before .pre .0, c .before .loop .inv .0 .deep), tt))
+    (λ c. let v = (rw (c .before .end .given .1) at (c .before .before .before .skip-value .ensures)) in let h = bounds.stands-count binary binary-reads noSlack binary-weighs _ _ _ _ _ _ _ _ v in let r = tree.list-room binary binary-reads _ _ _ _ _ noSlack binary-weighs (c .before .before .before .before .before .loop .inv) in omega (arith, h .1, r .0, v .part .within, c .before .before .before .before .before .before .before .before .before .before .before .before .before .good .0))
     (λ c. search needs)
-    (λ c. let v = (rw (c .before .end .given .1) at (c .before .before .before .skip-value .ensures)) in let h = bounds.stands-count binary binary-reads noSlack binary-weighs _ _ _ _ _ _ _ _ v in let r = tree.list-room binary binary-reads _ _ _ _ _ noSlack binary-weighs (c .before .before .before .before .before .loop .inv .0) in omega (arith, h .1, r .0, v .part .within, c .before .before .before .before .before .before .before .before .before .before .before .before .before .good .0))
-    (λ c. search needs)
-    (λ c. let r = tree.list-room binary binary-reads _ _ _ _ _ noSlack binary-weighs (c .before .before .before .before .before .loop .inv .0) in let h = bounds.cut-small binary binary-reads noSlack binary-weighs _ _ _ _ _ _ _ _ _ (r .1) (rw (c .before .refusal .given .1) at (c .before .before .before .skip-value .ensures)) in omega (arith, h, r .0, c .before .before .before .before .before .before .before .before .before .before .before .before .before .good .0))
-    (λ c t e. tree.list-cut binary binary-reads _ _ _ _ _ t e (c .before .before .before .before .before .loop .inv .0) (rw (c .before .before .before .before .before .loop .inv .1) at (c .before .before .before .before .loop-test .taken)) (rw (c .before .refusal .given .1) at (c .before .before .before .skip-value .ensures)))
-    (λ c. omega (arith, c .before .before .before .before .loop-test .taken, c .before .before .before .before .before .before .bits32 .ok))
+    (λ c. let r = tree.list-room binary binary-reads _ _ _ _ _ noSlack binary-weighs (c .before .before .before .before .before .loop .inv) in let h = bounds.cut-small binary binary-reads noSlack binary-weighs _ _ _ _ _ _ _ _ _ (r .1) (rw (c .before .refusal .given .1) at (c .before .before .before .skip-value .ensures)) in omega (arith, h, r .0, c .before .before .before .before .before .before .before .before .before .before .before .before .before .good .0))
+    (λ c t e. tree.list-cut binary binary-reads _ _ _ _ _ t e (c .before .before .before .before .before .loop .inv) (c .before .before .before .before .loop-test .taken) (rw (c .before .refusal .given .1) at (c .before .before .before .skip-value .ensures)))
+    (λ c. omega (arith, c .before .before .before .before .loop-test .taken, list-counts _ _ _ (told-as toldList (c .before .before .before .before .before .before .before .before .before .list .given .1) (c .before .before .before .before .before .before .before .before .before .before .before .read-list-begin .ensures)) .1 .fits))
     (λ c. omega (arith, c .before .before .before .before .loop-test .taken))
-    (λ c. (tree.list-more binary binary-reads _ _ _ _ _ (c .before .before .before .before .before .loop .inv .0) (rw (c .before .before .before .before .before .loop .inv .1) at (c .before .before .before .before .loop-test .taken)) (rw (c .before .end .given .1) at (c .before .before .before .skip-value .ensures)), c .before .before .before .before .before .loop .inv .1))
+    (λ c. tree.list-more binary binary-reads _ _ _ _ _ (c .before .before .before .before .before .loop .inv) (c .before .before .before .before .loop-test .taken) (rw (c .before .end .given .1) at (c .before .before .before .skip-value .ensures)))
     (λ c. search needs)
-    (λ c t e. tree.list-stands binary binary-reads _ _ _ _ _ t e (λ i. c .before .before .before .before .before .before .before .before .shared-slice-known .given i .fits) (c .before .loop .inv .0) (rw (c .before .loop .inv .1) at (c .loop-test .left)))
+    (λ c t e. tree.list-stands binary binary-reads _ _ _ _ _ t e (λ i. c .before .before .before .before .before .before .before .before .shared-slice-known .given i .fits) (c .before .loop .inv) (c .loop-test .left))
     (λ c t e. tree.own-refused binary binary-reads _ _ _ _ _ t items _ _ (λ z. omega (arith, c .before .before .before .before .before .pre .1)) e (ap (judgedAs asItems) (told-as toldList (c .before .refusal2 .given .1) (c .before .before .before .read-list-begin .ensures)))))
     (λ t. skip-map-lts.spec (skip-map-claims t) (skip-map-at t) skip-map.Post
     skip-map-Inv-loop
     skip-map-μ-loop
     (λ c κs. search needs)
     (λ c. search needs)
-    (λ c κs. search needs)
+    (λ c. map-counts _ _ _ (told-as toldMap (c .before .before .before .map .given .1) (c .before .before .before .before .before .read-map-begin .ensures)))
+    (λ c. let same : toZ w32 (ofZ w32 (c .before .before .before .map .given .0 .0 .size)) ≡ c .before .before .before .map .given .0 .0 .size = search needs in rw same (tree.map-start binary binary-reads _ _ _ _ _ (λ i. c .before .before .before .before .before .before .shared-slice-known .given i .fits) (c .before .before .before .before .before .before .before .pre .1) (ap (mapped asPaired) (told-as toldMap (c .before .before .before .map .given .1) (c .before .before .before .before .before .read-map-begin .ensures)))))
+    (λ c. omega (arith, c .before .loop .inv .deep))
+    (λ c κs. (omega (arith, c .before .before .before .before .before .before .before .before .before .pre .0, c .before .loop .inv .deep), tt))
     (λ c. search needs)
-    (λ c. let same : toZ w32 (ofZ w32 (c .before .before .before .map .given .0 .0 .size)) ≡ c .before .before .before .map .given .0 .0 .size = search needs in rw same (tree.map-start binary binary-reads _ _ _ _ _ (λ i. c .before .before .before .before .before .before .shared-slice-known .given i .fits) (c .before .before .before .before .before .before .before .pre .1) (ap (mapped asPaired) (told-as toldMap (c .before .before .before .map .given .1) (c .before .before .before .before .before .read-map-begin .ensures))), c .bits32 .ensures ∙ ap (ofZ w32) same ∙ map-bits _ _ _ (told-as toldMap (c .before .before .before .map .given .1) (c .before .before .before .before .before .read-map-begin .ensures))))
-    (λ c. omega (arith, c .before .loop .inv .0 .deep))
-    (λ c κs. (omega (arith, c .before .before .before .before .before .before .before .before .before .pre .0, c .before .loop .inv .0 .deep), tt))
+    (λ c. omega (arith, c .before .before .before .before .before .loop .inv .deep))
+    (λ c κs. (omega (arith, c .before .before .before .before .before .before .before .before .before .before .before .before .before .pre .0, c .before .before .before .before .before .loop .inv .deep), tt))
     (λ c. search needs)
-    (λ c. omega (arith, c .before .before .before .before .before .loop .inv .0 .deep))
-    (λ c κs. (omega (arith, c .before .before .before .before .before .before .before .before .before .before .before .before .before .pre .0, c .before .before .before .before .before .loop .inv .0 .deep), tt))
+    (λ c. let k = (rw (c .before .before .before .before .before .mid .given .1) at (c .before .before .before .before .before .before .before .skip-value .ensures)) in let h = bounds.stands-count binary binary-reads noSlack binary-weighs _ _ _ _ _ _ _ _ k in let r = tree.map-room binary binary-reads _ _ _ _ _ noSlack binary-weighs (c .before .before .before .before .before .before .before .before .before .loop .inv) in omega (arith, h .1, r .0, k .part .within, c .before .before .before .before .before .before .before .before .before .before .before .before .before .before .before .before .before .good .0))
+    (λ c. let k = (rw (c .before .before .before .before .before .mid .given .1) at (c .before .before .before .before .before .before .before .skip-value .ensures)) in let v = (rw (c .before .next .given .1) at (c .before .before .before .skip-value2 .ensures)) in let g = bounds.stands-count binary binary-reads noSlack binary-weighs _ _ _ _ _ _ _ _ k in let h = bounds.stands-count binary binary-reads noSlack binary-weighs _ _ _ _ _ _ _ _ v in let r = tree.map-room binary binary-reads _ _ _ _ _ noSlack binary-weighs (c .before .before .before .before .before .before .before .before .before .loop .inv) in omega (arith, g .1, h .1, r .0, v .part .within, c .before .before .before .before .before .before .before .before .before .before .before .before .before .before .before .before .before .good .0))
     (λ c. search needs)
-    (λ c. let k = (rw (c .before .before .before .before .before .mid .given .1) at (c .before .before .before .before .before .before .before .skip-value .ensures)) in let h = bounds.stands-count binary binary-reads noSlack binary-weighs _ _ _ _ _ _ _ _ k in let r = tree.map-room binary binary-reads _ _ _ _ _ noSlack binary-weighs (c .before .before .before .before .before .before .before .before .before .loop .inv .0) in omega (arith, h .1, r .0, k .part .within, c .before .before .before .before .before .before .before .before .before .before .before .before .before .before .before .before .before .good .0))
-    (λ c. let k = (rw (c .before .before .before .before .before .mid .given .1) at (c .before .before .before .before .before .before .before .skip-value .ensures)) in let v = (rw (c .before .next .given .1) at (c .before .before .before .skip-value2 .ensures)) in let g = bounds.stands-count binary binary-reads noSlack binary-weighs _ _ _ _ _ _ _ _ k in let h = bounds.stands-count binary binary-reads noSlack binary-weighs _ _ _ _ _ _ _ _ v in let r = tree.map-room binary binary-reads _ _ _ _ _ noSlack binary-weighs (c .before .before .before .before .before .before .before .before .before .loop .inv .0) in omega (arith, g .1, h .1, r .0, v .part .within, c .before .before .before .before .before .before .before .before .before .before .before .before .before .before .before .before .before .good .0))
+    (λ c. let k = (rw (c .before .before .before .before .before .mid .given .1) at (c .before .before .before .before .before .before .before .skip-value .ensures)) in let h = bounds.stands-count binary binary-reads noSlack binary-weighs _ _ _ _ _ _ _ _ k in let r = tree.map-room binary binary-reads _ _ _ _ _ noSlack binary-weighs (c .before .before .before .before .before .before .before .before .before .loop .inv) in omega (arith, h .1, r .0, k .part .within, c .before .before .before .before .before .before .before .before .before .before .before .before .before .before .before .before .before .good .0))
+    (λ c. let k = (rw (c .before .before .before .before .before .mid .given .1) at (c .before .before .before .before .before .before .before .skip-value .ensures)) in let g = bounds.stands-count binary binary-reads noSlack binary-weighs _ _ _ _ _ _ _ _ k in let h = bounds.cut-small binary binary-reads noSlack binary-weighs _ _ _ _ _ _ _ _ _ (k .part .within) (rw (c .before .late .given .1) at (c .before .before .before .skip-value2 .ensures)) in let r = tree.map-room binary binary-reads _ _ _ _ _ noSlack binary-weighs (c .before .before .before .before .before .before .before .before .before .loop .inv) in omega (arith, g .1, h, r .0, c .before .before .before .before .before .before .before .before .before .before .before .before .before .before .before .before .before .good .0))
+    (λ c t e. tree.map-value-cut binary binary-reads _ _ _ _ _ t e (c .before .before .before .before .before .before .before .before .before .loop .inv) (c .before .before .before .before .before .before .before .before .loop-test .taken) (rw (c .before .before .before .before .before .mid .given .1) at (c .before .before .before .before .before .before .before .skip-value .ensures)) (rw (c .before .late .given .1) at (c .before .before .before .skip-value2 .ensures)))
     (λ c. search needs)
-    (λ c. let k = (rw (c .before .before .before .before .before .mid .given .1) at (c .before .before .before .before .before .before .before .skip-value .ensures)) in let h = bounds.stands-count binary binary-reads noSlack binary-weighs _ _ _ _ _ _ _ _ k in let r = tree.map-room binary binary-reads _ _ _ _ _ noSlack binary-weighs (c .before .before .before .before .before .before .before .before .before .loop .inv .0) in omega (arith, h .1, r .0, k .part .within, c .before .before .before .before .before .before .before .before .before .before .before .before .before .before .before .before .before .good .0))
-    (λ c. let k = (rw (c .before .before .before .before .before .mid .given .1) at (c .before .before .before .before .before .before .before .skip-value .ensures)) in let g = bounds.stands-count binary binary-reads noSlack binary-weighs _ _ _ _ _ _ _ _ k in let h = bounds.cut-small binary binary-reads noSlack binary-weighs _ _ _ _ _ _ _ _ _ (k .part .within) (rw (c .before .late .given .1) at (c .before .before .before .skip-value2 .ensures)) in let r = tree.map-room binary binary-reads _ _ _ _ _ noSlack binary-weighs (c .before .before .before .before .before .before .before .before .before .loop .inv .0) in omega (arith, g .1, h, r .0, c .before .before .before .before .before .before .before .before .before .before .before .before .before .before .before .before .before .good .0))
-    (λ c t e. tree.map-value-cut binary binary-reads _ _ _ _ _ t e (c .before .before .before .before .before .before .before .before .before .loop .inv .0) (rw (c .before .before .before .before .before .before .before .before .before .loop .inv .1) at (c .before .before .before .before .before .before .before .before .loop-test .taken)) (rw (c .before .before .before .before .before .mid .given .1) at (c .before .before .before .before .before .before .before .skip-value .ensures)) (rw (c .before .late .given .1) at (c .before .before .before .skip-value2 .ensures)))
-    (λ c. search needs)
-    (λ c. let r = tree.map-room binary binary-reads _ _ _ _ _ noSlack binary-weighs (c .before .before .before .before .before .loop .inv .0) in let h = bounds.cut-small binary binary-reads noSlack binary-weighs _ _ _ _ _ _ _ _ _ (r .1) (rw (c .before .refusal .given .1) at (c .before .before .before .skip-value .ensures)) in omega (arith, h, r .0, c .before .before .before .before .before .before .before .before .before .before .before .before .before .good .0))
-    (λ c t e. tree.map-key-cut binary binary-reads _ _ _ _ _ t e (c .before .before .before .before .before .loop .inv .0) (rw (c .before .before .before .before .before .loop .inv .1) at (c .before .before .before .before .loop-test .taken)) (rw (c .before .refusal .given .1) at (c .before .before .before .skip-value .ensures)))
-    (λ c. omega (arith, c .before .before .before .before .before .before .before .before .loop-test .taken, c .before .before .before .before .before .before .before .before .before .before .bits32 .ok))
+    (λ c. let r = tree.map-room binary binary-reads _ _ _ _ _ noSlack binary-weighs (c .before .before .before .before .before .loop .inv) in let h = bounds.cut-small binary binary-reads noSlack binary-weighs _ _ _ _ _ _ _ _ _ (r .1) (rw (c .before .refusal .given .1) at (c .before .before .before .skip-value .ensures)) in omega (arith, h, r .0, c .before .before .before .before .before .before .before .before .before .before .before .before .before .good .0))
+    (λ c t e. tree.map-key-cut binary binary-reads _ _ _ _ _ t e (c .before .before .before .before .before .loop .inv) (c .before .before .before .before .loop-test .taken) (rw (c .before .refusal .given .1) at (c .before .before .before .skip-value .ensures)))
+    (λ c. omega (arith, c .before .before .before .before .before .before .before .before .loop-test .taken, map-counts _ _ _ (told-as toldMap (c .before .before .before .before .before .before .before .before .before .before .before .before .before .map .given .1) (c .before .before .before .before .before .before .before .before .before .before .before .before .before .before .before .read-map-begin .ensures)) .1 .fits))
     (λ c. omega (arith, c .before .before .before .before .before .before .before .before .loop-test .taken))
-    (λ c. (tree.map-more binary binary-reads _ _ _ _ _ (c .before .before .before .before .before .before .before .before .before .loop .inv .0) (rw (c .before .before .before .before .before .before .before .before .before .loop .inv .1) at (c .before .before .before .before .before .before .before .before .loop-test .taken)) (rw (c .before .before .before .before .before .mid .given .1) at (c .before .before .before .before .before .before .before .skip-value .ensures)) (rw (c .before .next .given .1) at (c .before .before .before .skip-value2 .ensures)), c .before .before .before .before .before .before .before .before .before .loop .inv .1))
+    (λ c. tree.map-more binary binary-reads _ _ _ _ _ (c .before .before .before .before .before .before .before .before .before .loop .inv) (c .before .before .before .before .before .before .before .before .loop-test .taken) (rw (c .before .before .before .before .before .mid .given .1) at (c .before .before .before .before .before .before .before .skip-value .ensures)) (rw (c .before .next .given .1) at (c .before .before .before .skip-value2 .ensures)))
     (λ c. search needs)
-    (λ c t e. tree.map-stands binary binary-reads _ _ _ _ _ t e (λ i. c .before .before .before .before .before .before .before .before .shared-slice-known .given i .fits) (c .before .loop .inv .0) (rw (c .before .loop .inv .1) at (c .loop-test .left)))
+    (λ c t e. tree.map-stands binary binary-reads _ _ _ _ _ t e (λ i. c .before .before .before .before .before .before .before .before .shared-slice-known .given i .fits) (c .before .loop .inv) (c .loop-test .left))
     (λ c t e. tree.own-refused binary binary-reads _ _ _ _ _ t pairs _ _ (λ z. omega (arith, c .before .before .before .before .before .pre .1)) e (ap (judgedAs asPaired) (told-as toldMap (c .before .refusal2 .given .1) (c .before .before .before .read-map-begin .ensures)))))
     (λ t. skip-struct-lts.spec (skip-struct-claims t) (skip-struct-at t) skip-struct.Post
     skip-struct-Inv-loop
