@@ -2,4 +2,3 @@ pub mod Counted
 pub mod Entry
 pub mod Exactly
 pub mod MoreRoom
-pub mod Sizes

@@ -56,7 +56,7 @@ pub fn skip_till_depth(
     if 127 < depth {
         return refused(Kind::DepthBeyond, at);
     }
-    match crate::value::skip_value(bytes, cursor, field_type, depth, struct_depth, config) {
+    match skip_value::skip_value(bytes, cursor, field_type, depth, struct_depth, config) {
         Walked::Passed(next, count) => Skipped::Passed {
             next,
             struct_depth,

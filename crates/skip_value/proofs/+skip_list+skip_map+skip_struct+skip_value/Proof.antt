@@ -17,25 +17,25 @@ use Rattle.tree.proofs.Steps as tree
 use Rattle.binary.specs.Binary.{seenAs, heading, asItems, asPaired, binary}
 use Rattle.binary.proofs.Binary.{binary-reads, noSlack, binary-weighs}
 use Rattle.binary.proofs.Steps.{leaf-answers, goes, stops, judgedAs}
-use Rattle.skip.proofs.Sizes.{list-counts, map-counts}
+use Rattle.skip_value.proofs.Sizes.{list-counts, map-counts}
 use Rattle.tree.proofs.Parts.{part-length}
 use Rattle.tree.proofs.Heads.{struct-is}
 use Rattle.binary.proofs.Heads.{field-is}
 use Rattle.codes.specs.declared.shape.Shape.the-variants as Sh
 use borrow.Fn.Kinds.{In}
 use borrow.Fn.PlainCycle.{Measures, is, falls, and}
-use Rattle.skip.proofs.value.skip_list.Reads as skip-list
-use Rattle.skip.proofs.value.skip_list.Kinds as skip-list-kinds
-use Rattle.skip.proofs.value.+skip_list+skip_map+skip_struct+skip_value.Lts-skip_list as skip-list-lts
-use Rattle.skip.proofs.value.skip_map.Reads as skip-map
-use Rattle.skip.proofs.value.skip_map.Kinds as skip-map-kinds
-use Rattle.skip.proofs.value.+skip_list+skip_map+skip_struct+skip_value.Lts-skip_map as skip-map-lts
-use Rattle.skip.proofs.value.skip_struct.Reads as skip-struct
-use Rattle.skip.proofs.value.skip_struct.Kinds as skip-struct-kinds
-use Rattle.skip.proofs.value.+skip_list+skip_map+skip_struct+skip_value.Lts-skip_struct as skip-struct-lts
-use Rattle.skip.proofs.value.skip_value.Reads as skip-value
-use Rattle.skip.proofs.value.skip_value.Kinds as skip-value-kinds
-use Rattle.skip.proofs.value.+skip_list+skip_map+skip_struct+skip_value.Lts-skip_value as skip-value-lts
+use Rattle.skip_value.proofs.skip_list.Reads as skip-list
+use Rattle.skip_value.proofs.skip_list.Kinds as skip-list-kinds
+use Rattle.skip_value.proofs.+skip_list+skip_map+skip_struct+skip_value.Lts-skip_list as skip-list-lts
+use Rattle.skip_value.proofs.skip_map.Reads as skip-map
+use Rattle.skip_value.proofs.skip_map.Kinds as skip-map-kinds
+use Rattle.skip_value.proofs.+skip_list+skip_map+skip_struct+skip_value.Lts-skip_map as skip-map-lts
+use Rattle.skip_value.proofs.skip_struct.Reads as skip-struct
+use Rattle.skip_value.proofs.skip_struct.Kinds as skip-struct-kinds
+use Rattle.skip_value.proofs.+skip_list+skip_map+skip_struct+skip_value.Lts-skip_struct as skip-struct-lts
+use Rattle.skip_value.proofs.skip_value.Reads as skip-value
+use Rattle.skip_value.proofs.skip_value.Kinds as skip-value-kinds
+use Rattle.skip_value.proofs.+skip_list+skip_map+skip_struct+skip_value.Lts-skip_value as skip-value-lts
 use Rattle.read.proofs.container.read_list_begin.Reads as read-list-begin-reads
 use Rattle.read.proofs.container.read_map_begin.Reads as read-map-begin-reads
 use Rattle.read.proofs.field.read_field_begin.Reads as read-field-begin-reads
@@ -46,8 +46,8 @@ use Rattle.leaf.proofs.skip_fixed.Reads as skip-fixed-reads
 use Rattle.leaf.proofs.skip_text.Reads as skip-text-reads
 use Rattle.codes.proofs.TType.is_stop.Reads as is-stop-reads
 use Rattle.codes.proofs.shape.shape_of.Reads as shape-of-reads
-use Rattle.skip.proofs.value.+skip_list+skip_map+skip_struct+skip_value.{statement}
-use Rattle.skip.proofs.value.+skip_list+skip_map+skip_struct+skip_value.Tie.{close}
+use Rattle.skip_value.proofs.+skip_list+skip_map+skip_struct+skip_value.{statement}
+use Rattle.skip_value.proofs.+skip_list+skip_map+skip_struct+skip_value.Tie.{close}
 
 abbrev μ-skip-list : Measures 1 skip-list-kinds.ps ℕ
 μ-skip-list κs a = a .1 .1 .0 + a .1 .1 .0

@@ -17,7 +17,11 @@ ghost use Rattle.tree.specs.Answers.{Answers, EachAnswers};
 ghost use Rattle.binary.specs.Binary.{binary};
 ghost use Rattle.leaf.specs.Told.{toldWalked};
 
-pub(crate) fn skip_value(
+// Passes one value of the type, whole, and counts the values in it, as `skip_till_depth` does once it has judged the start
+// and both depths. Refuses of each value, as it is met, 10, 12 and what its struct begin, its header or its bytes refuse:
+// 2, 20, 11, 1, 5, 6, 7, 8, 9, with the values begun.
+// 08 00 01 00 00 00 09 00 at 0 as Struct, depth 2, ends at 8, count 2; at 9 it is refused: 2 at 9, count 1.
+pub fn skip_value(
     bytes: &[u8],
     cursor: Cursor,
     field_type: TType,
