@@ -32,6 +32,7 @@ use Rattle.scalar.specs.declared.Scalar.the-variants as Sc
 use Rattle.message.proofs.Settled.{message-settled, message-type-settled}
 use Rattle.leaf.proofs.Leaves.{walked-settled}
 use Rattle.skip.proofs.Counted.{accepted-count, refused-count}
+use Rattle.skip_value.proofs.Settled.{value-settled}
 use Rattle.skip.proofs.Exactly.{accepts-exactly, refuses-exactly, skip-settled}
 use Rattle.skip.proofs.MoreRoom as more-room
 use Rattle.write.proofs.ReadsBack as values
@@ -150,6 +151,7 @@ one-answer =
       moves = λ a b e. moved-settled e refl;
       limits = λ a b e. built-settled e refl;
       leaves = λ a b e. walked-settled e refl;
+      values = value-settled;
       skips = skip-settled;
       writes = λ r r' new new' old write p q. wrote-settled p q;
       host = hosted-settled;

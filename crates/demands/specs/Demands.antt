@@ -38,12 +38,13 @@ use Rattle.scalar.specs.declared.Scalar.{Scalar}
 use Rattle.scalar.specs.declared.Scalar.the-variants as Sc
 use Rattle.message.specs.Messages.{message, messageAt}
 use Rattle.message.specs.Told.{toldMessage, toldMessageType}
-use Rattle.tree.specs.Answers.{ended, cut-off, StandsHere, RefusedHere}
+use Rattle.tree.specs.Answers.{ended, cut-off, Answers, StandsHere, RefusedHere}
 use Rattle.tree.specs.Coding.{leaf}
 use Rattle.tree.specs.Room.{Roomier, Unnamed}
 use Rattle.tree.specs.Sizes.{SizeFits}
 use Rattle.binary.specs.Binary.{binary}
 use Rattle.leaf.specs.Told.{toldWalked}
+use Rattle.leaf.specs.declared.Walked.{Walked}
 use Rattle.skip.specs.Skips.{toldSkipped, SkipSays}
 use Rattle.skip.specs.declared.till_depth.Skipped.{Skipped}
 use Rattle.write.specs.Found.{Finds, Found}
@@ -180,6 +181,8 @@ pub record OneAnswer : Type 0 where
   pub moves : Known toldMoved
   pub limits : Known toldBuilt
   pub leaves : Known toldWalked
+  pub values : (c : TConfiguration) (s : List ℕ) (at d sd : ℕ) (t : TType) (a b : Walked) → Answers binary c s at d sd t (toldWalked a)
+      → Answers binary c s at d sd t (toldWalked b) → a ≡ b
   pub skips : (c : TConfiguration) (s : List ℕ) (at d sd : ℕ) (t : TType) (a b : Skipped) → SkipSays c s at d sd t a → SkipSays c s at d sd t b → a ≡ b
   -- answer and buffer of a write; return and record of the host's call
   pub writes : (r r' : Moved) (new new' old : List ℕ) (write : Answer (List ℕ)) → Wrote r new old write → Wrote r' new' old write → (r ≡ r') × (new ≡ new')
