@@ -39,7 +39,7 @@ seenAs Sh.Fields = noLeaf fields
 seenAs Sh.Items = noLeaf items
 seenAs Sh.Pairs = noLeaf pairs
 
--- what the headers that `read` reads say to the tree
+-- what the headers that `read` reads say to the tree; a size that was read is not negative
 abbrev pub heading : TFieldIdentifier → Heading TType Unit
 heading f = cond (isStop (f .«field_type»)) stop (going (f .«field_type») tt)
 

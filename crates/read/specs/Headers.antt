@@ -43,6 +43,7 @@ countAt c least s at =
     (refuseIf (above (size * least) (c .«max_message_size»)) 9 at
     (gives size next))
 
+-- an identifier holds its size in 32 signed bits, as the Rust's does
 abbrev pub list : TType → ℕ → TListIdentifier
 list t size = record { «element_type» = t; size = pos size }
 
