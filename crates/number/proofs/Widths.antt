@@ -2,7 +2,7 @@
 use mathlib.Core.Path.{_≡_, refl, sym, _∙_, ap}
 use mathlib.Core.List.{List, [], _∷_, _++_}
 use Prim.Native.Nat.{ℕ, zero, suc, _+_, _*_, _/_, _%_, _^_, _<_, _≤_}
-use native.Mathlib.Nat.{mod-eq-of-lt, mod-lt, mod-one, pow-suc, pow-zero, add-zero, mul-assoc}
+use native.Mathlib.Nat.{mod-eq-of-lt, mod-lt, mod-one, pow-suc, pow-zero, add-zero, add-assoc, mul-assoc}
 use native.Mathlib.Numerals.{add-one}
 use native.Mathlib.Omega.{arith}
 use lib.Arith.{mod-mul, digits-div, digits-mod}
@@ -106,6 +106,10 @@ read-written (suc w) s at o h =
       down,
       read-written w s at o (omega arith),
     )
+
+-- a byte counted from the second half's place
+pub byte-from : (s : List ℕ) (at half i : ℕ) → getD s (at + half + i) 0 ≡ getD s (at + (half + i)) 0
+byte-from s at half i = ap (λ (j : ℕ). getD s j 0) (add-assoc at half i)
 
 -- a number that is read: the two ways out of every read of this crate
 module _ {A : Type 0} (w : ℕ) (f : ℕ → A) (s : List ℕ) (at : ℕ) where

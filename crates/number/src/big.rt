@@ -33,24 +33,12 @@ pub(crate) fn be32(bytes: &[u8], at: usize) -> u32
     requires { ⌜ at + 4 ≤ length (now bytes) ⌝ }
     ensures { λ r. ⌜ r ≡ sumAt 4 (now (bytes .entry)) at ⌝ }
 {
-    join32(
-        join16(bytes[at], bytes[at + 1]),
-        join16(bytes[at + 2], bytes[at + 3]),
-    )
+    join32(be16(bytes, at), be16(bytes, at + 2))
 }
 
 pub(crate) fn be64(bytes: &[u8], at: usize) -> u64
     requires { ⌜ at + 8 ≤ length (now bytes) ⌝ }
     ensures { λ r. ⌜ r ≡ sumAt 8 (now (bytes .entry)) at ⌝ }
 {
-    join64(
-        join32(
-            join16(bytes[at], bytes[at + 1]),
-            join16(bytes[at + 2], bytes[at + 3]),
-        ),
-        join32(
-            join16(bytes[at + 4], bytes[at + 5]),
-            join16(bytes[at + 6], bytes[at + 7]),
-        ),
-    )
+    join64(be32(bytes, at), be32(bytes, at + 4))
 }

@@ -46,37 +46,6 @@ pub enum ReadStep {
     Unknown,
 }
 
-const READS: [ReadStep; 28] = [
-    ReadStep::Plain(Plain::Byte),
-    ReadStep::Plain(Plain::Bool),
-    ReadStep::Plain(Plain::I8),
-    ReadStep::Plain(Plain::I16),
-    ReadStep::Plain(Plain::I32),
-    ReadStep::Plain(Plain::I64),
-    ReadStep::Plain(Plain::Double),
-    ReadStep::Bounded(Bounded::Bytes),
-    ReadStep::Bounded(Bounded::String),
-    ReadStep::Plain(Plain::Uuid),
-    ReadStep::Plain(Plain::Type),
-    ReadStep::Plain(Plain::Field),
-    ReadStep::Bounded(Bounded::List),
-    ReadStep::Bounded(Bounded::Set),
-    ReadStep::Bounded(Bounded::Map),
-    ReadStep::Bounded(Bounded::StructBegin),
-    ReadStep::Bounded(Bounded::StructEnd),
-    ReadStep::Plain(Plain::MessageType),
-    ReadStep::Bounded(Bounded::Message),
-    ReadStep::Scalar,
-    ReadStep::Plain(Plain::MessageEnd),
-    ReadStep::Plain(Plain::FieldEnd),
-    ReadStep::Plain(Plain::ListEnd),
-    ReadStep::Plain(Plain::SetEnd),
-    ReadStep::Plain(Plain::MapEnd),
-    ReadStep::Bounded(Bounded::Frame),
-    ReadStep::Skip,
-    ReadStep::Bounded(Bounded::Limits),
-];
-
 // The writes that put down a number or the text.
 pub enum Put {
     Stop,
@@ -120,75 +89,96 @@ pub enum WriteStep {
     Unknown,
 }
 
-const WRITES: [WriteStep; 24] = [
-    WriteStep::Message,
-    WriteStep::Still(Still::MessageEnd),
-    WriteStep::Still(Still::StructBegin),
-    WriteStep::Still(Still::StructEnd),
-    WriteStep::Headed(Headed::Field),
-    WriteStep::Still(Still::FieldEnd),
-    WriteStep::Put(Put::Stop),
-    WriteStep::Put(Put::Byte),
-    WriteStep::Put(Put::Bool),
-    WriteStep::Put(Put::I8),
-    WriteStep::Put(Put::I16),
-    WriteStep::Put(Put::I32),
-    WriteStep::Put(Put::I64),
-    WriteStep::Put(Put::Double),
-    WriteStep::Put(Put::Bytes),
-    WriteStep::Put(Put::String),
-    WriteStep::Uuid,
-    WriteStep::Headed(Headed::List),
-    WriteStep::Headed(Headed::Set),
-    WriteStep::Map,
-    WriteStep::Still(Still::ListEnd),
-    WriteStep::Still(Still::SetEnd),
-    WriteStep::Still(Still::MapEnd),
-    WriteStep::Put(Put::Frame),
-];
-
-const KINDS: [Typed; 15] = [
-    Typed::Known(TType::Stop),
-    Typed::Known(TType::Void),
-    Typed::Known(TType::Bool),
-    Typed::Known(TType::I08),
-    Typed::Known(TType::Double),
-    Typed::Known(TType::I16),
-    Typed::Known(TType::I32),
-    Typed::Known(TType::I64),
-    Typed::Known(TType::String),
-    Typed::Known(TType::Utf7),
-    Typed::Known(TType::Struct),
-    Typed::Known(TType::Map),
-    Typed::Known(TType::Set),
-    Typed::Known(TType::List),
-    Typed::Known(TType::Uuid),
-];
-
 // The read that a number stands for, Unknown from 28 on. Refuses nothing.
 pub fn read_step(b: u8) -> ReadStep
     ensures { λ r. ⌜ r ≡ readStepOf b ⌝ }
 {
-    let i = b as usize;
-    if i < 28 { READS[i] } else { ReadStep::Unknown }
+    match b {
+        0 => ReadStep::Plain(Plain::Byte),
+        1 => ReadStep::Plain(Plain::Bool),
+        2 => ReadStep::Plain(Plain::I8),
+        3 => ReadStep::Plain(Plain::I16),
+        4 => ReadStep::Plain(Plain::I32),
+        5 => ReadStep::Plain(Plain::I64),
+        6 => ReadStep::Plain(Plain::Double),
+        7 => ReadStep::Bounded(Bounded::Bytes),
+        8 => ReadStep::Bounded(Bounded::String),
+        9 => ReadStep::Plain(Plain::Uuid),
+        10 => ReadStep::Plain(Plain::Type),
+        11 => ReadStep::Plain(Plain::Field),
+        12 => ReadStep::Bounded(Bounded::List),
+        13 => ReadStep::Bounded(Bounded::Set),
+        14 => ReadStep::Bounded(Bounded::Map),
+        15 => ReadStep::Bounded(Bounded::StructBegin),
+        16 => ReadStep::Bounded(Bounded::StructEnd),
+        17 => ReadStep::Plain(Plain::MessageType),
+        18 => ReadStep::Bounded(Bounded::Message),
+        19 => ReadStep::Scalar,
+        20 => ReadStep::Plain(Plain::MessageEnd),
+        21 => ReadStep::Plain(Plain::FieldEnd),
+        22 => ReadStep::Plain(Plain::ListEnd),
+        23 => ReadStep::Plain(Plain::SetEnd),
+        24 => ReadStep::Plain(Plain::MapEnd),
+        25 => ReadStep::Bounded(Bounded::Frame),
+        26 => ReadStep::Skip,
+        27 => ReadStep::Bounded(Bounded::Limits),
+        _ => ReadStep::Unknown,
+    }
 }
 
 // The write that a number stands for, Unknown from 24 on. Refuses nothing.
 pub fn write_step(b: u8) -> WriteStep
     ensures { λ r. ⌜ r ≡ writeStepOf b ⌝ }
 {
-    let i = b as usize;
-    if i < 24 {
-        WRITES[i]
-    } else {
-        WriteStep::Unknown
+    match b {
+        0 => WriteStep::Message,
+        1 => WriteStep::Still(Still::MessageEnd),
+        2 => WriteStep::Still(Still::StructBegin),
+        3 => WriteStep::Still(Still::StructEnd),
+        4 => WriteStep::Headed(Headed::Field),
+        5 => WriteStep::Still(Still::FieldEnd),
+        6 => WriteStep::Put(Put::Stop),
+        7 => WriteStep::Put(Put::Byte),
+        8 => WriteStep::Put(Put::Bool),
+        9 => WriteStep::Put(Put::I8),
+        10 => WriteStep::Put(Put::I16),
+        11 => WriteStep::Put(Put::I32),
+        12 => WriteStep::Put(Put::I64),
+        13 => WriteStep::Put(Put::Double),
+        14 => WriteStep::Put(Put::Bytes),
+        15 => WriteStep::Put(Put::String),
+        16 => WriteStep::Uuid,
+        17 => WriteStep::Headed(Headed::List),
+        18 => WriteStep::Headed(Headed::Set),
+        19 => WriteStep::Map,
+        20 => WriteStep::Still(Still::ListEnd),
+        21 => WriteStep::Still(Still::SetEnd),
+        22 => WriteStep::Still(Still::MapEnd),
+        23 => WriteStep::Put(Put::Frame),
+        _ => WriteStep::Unknown,
     }
 }
 
-// The type that an index in the list above stands for, which is not its byte; Unknown from 15 on. Refuses nothing.
+// The type that an index stands for, which is not its byte; Unknown from 15 on. Refuses nothing.
 pub fn kind(b: u8) -> Typed
     ensures { λ r. ⌜ r ≡ kindOf b ⌝ }
 {
-    let i = b as usize;
-    if i < 15 { KINDS[i] } else { Typed::Unknown }
+    match b {
+        0 => Typed::Known(TType::Stop),
+        1 => Typed::Known(TType::Void),
+        2 => Typed::Known(TType::Bool),
+        3 => Typed::Known(TType::I08),
+        4 => Typed::Known(TType::Double),
+        5 => Typed::Known(TType::I16),
+        6 => Typed::Known(TType::I32),
+        7 => Typed::Known(TType::I64),
+        8 => Typed::Known(TType::String),
+        9 => Typed::Known(TType::Utf7),
+        10 => Typed::Known(TType::Struct),
+        11 => Typed::Known(TType::Map),
+        12 => Typed::Known(TType::Set),
+        13 => Typed::Known(TType::List),
+        14 => Typed::Known(TType::Uuid),
+        _ => Typed::Unknown,
+    }
 }

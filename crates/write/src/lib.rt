@@ -1,5 +1,5 @@
-// What TBinaryOutputProtocol writes for a single value, put into a lent buffer at a cursor: the moved cursor, or the
-// refusal with the buffer as it was.
-pub mod scalar;
+// What TBinaryOutputProtocol writes for a text, a UUID or a struct, put into a lent buffer at a cursor: the moved cursor,
+// or the refusal with the buffer as it was. The definitions and laws of all single values are here; the writers of bytes,
+// bools and numbers are in `write_scalars`.
 pub mod string;
 pub mod structs;

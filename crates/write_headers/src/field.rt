@@ -70,7 +70,7 @@ pub fn write_field_begin(out: &mut [u8], cursor: Cursor, field_type: TType, id: 
         FieldId::Absent => {
             if field_type.is_stop() {
                 let stop = codes::field_type_to_u8(field_type);
-                return write::scalar::write_byte(out, cursor, stop);
+                return write_scalars::write_byte(out, cursor, stop);
             }
             missing(out.len(), cursor)
         }
@@ -90,5 +90,5 @@ pub fn write_field_end(out: &[u8], cursor: Cursor) -> Moved
 pub fn write_field_stop(out: &mut [u8], cursor: Cursor) -> Moved
     ensures { λ r. ⌜ Wrote r (now (out .exit)) (now (out .entry)) (stopWrite (now (out .entry)) (cursor .at)) ⌝ }
 {
-    write::scalar::write_byte(out, cursor, codes::field_type_to_u8(TType::Stop))
+    write_scalars::write_byte(out, cursor, codes::field_type_to_u8(TType::Stop))
 }

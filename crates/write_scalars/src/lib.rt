@@ -1,9 +1,10 @@
-// Bytes, bools, numbers and doubles.
+// Bytes, bools, numbers and doubles into a lent buffer at a cursor: the moved cursor, or the refusal with the buffer as
+// it was.
 use wire::cursor::Cursor;
 use wire::cursor::Moved;
 ghost use Rattle.wire.specs.Writes.{Wrote, putAt};
 ghost use Rattle.number.specs.BigEndian.{bytesOf};
 ghost use Rattle.write.specs.Outputs.{byteWrite, boolWrite, i8Write, i16Write, i32Write, i64Write, doubleWrite};
 
 // A bool at the cursor: 1 or 0. Refuses 2, 15.
 // true at 0 of AA leaves 01 and ends at 1; true at 1 of AA is refused: 15 at 1.

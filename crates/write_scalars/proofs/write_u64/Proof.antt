@@ -3,9 +3,9 @@ use borrow.Author.Needs.{needs}
 use mathlib.Core.Path.{refl}
 use Rattle.number.specs.BigEndian.{bytesOf}
 use Rattle.number.proofs.Widths.{length-bytesOf}
 use Rattle.write.proofs.Whole.{starts, unwritten, written}
-use Rattle.write.proofs.scalar.write_u64.Statement.{statement}
-use Rattle.write.proofs.scalar.write_u64.Tie as tie
+use Rattle.write_scalars.proofs.write_u64.Statement.{statement}
+use Rattle.write_scalars.proofs.write_u64.Tie as tie
 
 pub write-u64-spec : {M : Type 1} → statement M
 write-u64-spec =

@@ -1,7 +1,7 @@
 -- Assumes nothing.
 use borrow.Author.Needs.{needs}
-use Rattle.write.proofs.scalar.write_bool.Statement.{statement}
-use Rattle.write.proofs.scalar.write_bool.Tie as tie
+use Rattle.write_scalars.proofs.write_bool.Statement.{statement}
+use Rattle.write_scalars.proofs.write_bool.Tie as tie
 
 pub write-bool-spec : {M : Type 1} → statement M
 write-bool-spec =

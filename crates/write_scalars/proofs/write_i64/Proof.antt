@@ -3,8 +3,8 @@ use borrow.Author.Needs.{needs}
 use mathlib.Core.Path.{_∙_}
 use mir.Syntax.{w64}
 use Rattle.sign.proofs.TwosComplement.{sent}
-use Rattle.write.proofs.scalar.write_i64.Statement.{statement}
-use Rattle.write.proofs.scalar.write_i64.Tie as tie
+use Rattle.write_scalars.proofs.write_i64.Statement.{statement}
+use Rattle.write_scalars.proofs.write_i64.Tie as tie
 
 pub write-i64-spec : {M : Type 1} → statement M
 write-i64-spec =

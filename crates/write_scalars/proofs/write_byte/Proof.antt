@@ -2,9 +2,9 @@
 use borrow.Author.Needs.{needs}
 use mathlib.Core.Path.{refl}
 use mathlib.Core.List.{[], _∷_}
 use Rattle.write.proofs.Whole.{starts, unwritten, written}
-use Rattle.write.proofs.scalar.write_byte.Statement.{statement}
-use Rattle.write.proofs.scalar.write_byte.Tie as tie
+use Rattle.write_scalars.proofs.write_byte.Statement.{statement}
+use Rattle.write_scalars.proofs.write_byte.Tie as tie
 
 pub write-byte-spec : {M : Type 1} → statement M
 write-byte-spec =

@@ -7,9 +7,9 @@ use mir.Val.{ofZ}
 use Rattle.number.specs.BigEndian.{bytesOf}
 use Rattle.number.proofs.Widths.{length-bytesOf}
 use Rattle.sign.proofs.TwosComplement.{sent}
 use Rattle.write.proofs.Whole.{starts, unwritten, written}
-use Rattle.write.proofs.scalar.write_i32.Statement.{statement}
-use Rattle.write.proofs.scalar.write_i32.Tie as tie
+use Rattle.write_scalars.proofs.write_i32.Statement.{statement}
+use Rattle.write_scalars.proofs.write_i32.Tie as tie
 
 pub write-i32-spec : {M : Type 1} → statement M
 write-i32-spec =

@@ -1,7 +1,7 @@
 -- Assumes nothing.
 use borrow.Author.Needs.{needs}
-use Rattle.write.proofs.scalar.write_double.Statement.{statement}
-use Rattle.write.proofs.scalar.write_double.Tie as tie
+use Rattle.write_scalars.proofs.write_double.Statement.{statement}
+use Rattle.write_scalars.proofs.write_double.Tie as tie
 
 pub write-double-spec : {M : Type 1} → statement M
 write-double-spec =

@@ -6,8 +6,8 @@ use Rattle.sign.proofs.TwosComplement.{sent}
 use mir.Val.{ofZ}
 use mir.ValLaws.{ofZ-fits}
 use Rattle.number.proofs.Widths.{one-byte}
-use Rattle.write.proofs.scalar.write_i8.Statement.{statement}
-use Rattle.write.proofs.scalar.write_i8.Tie as tie
+use Rattle.write_scalars.proofs.write_i8.Statement.{statement}
+use Rattle.write_scalars.proofs.write_i8.Tie as tie
 
 pub write-i8-spec : {M : Type 1} → statement M
 write-i8-spec =
