@@ -1,6 +1,5 @@
 -- A header's refusal never lies before the header, in the binary encoding. Assumes nothing.
 use Prim.Native.Nat.{ℕ, _+_, _≤_}
-use mathlib.Core.Path.{_≡_}
 use mathlib.Core.Bool.{Bool, true, false, cond}
 use mathlib.Core.List.{List}
 use lib.IntN.{pos, natAbs}

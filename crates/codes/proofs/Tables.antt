@@ -1,17 +1,11 @@
 -- A table of what each number from 0 on stands for: an entry, a rule that holds of all of them, and a match that names each. Assumes nothing.
-use Prim.Native.Nat.{ℕ, zero, suc, _+_, _<_}
+use Prim.Native.Nat.{ℕ, zero, suc, _+_}
 use mathlib.Core.Path.{_≡_, refl}
 use mathlib.Core.Bool.{Bool, true, false}
 use mathlib.Core.List.{List, [], _∷_}
-use native.Mathlib.Nat.{le-of-suc-le-suc, not-suc-le-zero, add-zero, add-suc, suc-add}
+use native.Mathlib.Nat.{add-zero, add-suc, suc-add}
 use native.Mathlib.Omega.{arith}
-use lib.ListN.{length, getD}
-
--- within the table, what getD answers past its end does not matter
-pub getD-within : {A : Type 0} (l : List A) (i : ℕ) (d e : A) → i < length l → getD l i d ≡ getD l i e
-getD-within [] i d e h = absurd (not-suc-le-zero h)
-getD-within (a ∷ l) zero d e h = refl
-getD-within (a ∷ l) (suc i) d e h = getD-within l i d e (le-of-suc-le-suc h)
+use lib.ListN.{getD}
 
 -- the rule, said of each entry from k on
 abbrev pub Each : {A : Type 0} → (ℕ → A → Type 0) → ℕ → List A → Type 0

@@ -10,7 +10,7 @@ use Rattle.wire.specs.Answer.{gives, refused, refuseIf, andThen, mapped}
 use Rattle.codes.specs.Codes.{typeOf, isStop, leastSize}
 use Rattle.codes.specs.declared.TType.{TType}
 use Rattle.codes.specs.declared.Typed.the-variants as Type-of
-use Rattle.wire.proofs.Answers.{first-fault, goes-on, passed, went}
+use Rattle.wire.proofs.Answers.{first-fault, passed, went}
 use Rattle.number.specs.Reads.{byteAt, i16At}
 use Rattle.config.specs.Limits.{above}
 use Rattle.config.specs.declared.configuration.TConfiguration.{TConfiguration}

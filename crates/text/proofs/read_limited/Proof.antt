@@ -1,7 +1,7 @@
 -- Assumes nothing.
 use borrow.Author.Needs.{needs}
 use Prim.Native.Nat.{ℕ}
-use mathlib.Core.Path.{_≡_, sym, ap, _∙_}
+use mathlib.Core.Path.{sym, ap, _∙_}
 use Rattle.wire.specs.Answer.{refused}
 use Rattle.text.specs.Told.{toldSize}
 use Rattle.wire.proofs.Answers.{told-as}

@@ -1,6 +1,5 @@
 -- Assumes nothing.
 use borrow.Author.Needs.{needs}
-use mathlib.Core.Path.{_≡_, ap, _∙_}
 use Rattle.text.specs.Told.{toldSize}
 use Rattle.wire.proofs.Answers.{told-as}
 use Rattle.wire.specs.Refusals.{toldMoved}

@@ -1,7 +1,6 @@
 -- Assumes nothing.
 use borrow.Author.Needs.{needs}
 use Prim.Native.Nat.{_-_, _≤_}
-use lib.ListN.{length}
 use Rattle.answers.proofs.line.bytes.Statement.{statement}
 use Rattle.answers.proofs.line.bytes.Tie as tie
 

@@ -1,6 +1,6 @@
 -- Assumes nothing.
 use borrow.Author.Needs.{needs}
-use Prim.Native.Nat.{_-_, _≤_}
+use Prim.Native.Nat.{_-_}
 use lib.ListN.{length}
 use Rattle.answers.proofs.line.number.Statement.{statement}
 use Rattle.answers.proofs.line.number.Tie as tie

@@ -1,7 +1,6 @@
 -- Assumes nothing.
 use borrow.Author.Needs.{needs}
-use Prim.Native.Nat.{_-_, _≤_}
-use lib.ListN.{length}
+use Prim.Native.Nat.{_-_}
 use Rattle.answers.proofs.line.numbers.Statement.{statement}
 use Rattle.answers.proofs.line.numbers.Tie as tie
 
