@@ -2,7 +2,7 @@
 ghost use Rattle.std.specs.Prelude.{◌≤◌};
 
 // A number, or how many bytes a string of them has, and where the next word begins.
-#[derive(Drop)]
+#[derive(Clone, Copy)]
 pub struct Word {
     pub value: u64,
     pub next: usize,

@@ -1,4 +1,6 @@
 // Replays the kept list: each line is one call and what the published crate answered, and the port must answer the same.
+#![tactic(auto)]
+
 mod line;
 mod replay;
 

@@ -1,4 +1,6 @@
 // Shows the codec at work: one line for each case, what was asked and what was answered.
+#![tactic(auto)]
+
 use codes::TType;
 use config::configuration::{Built, TConfiguration};
 use config::limit::Limit;

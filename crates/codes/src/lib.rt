@@ -1,10 +1,12 @@
 // The codes of types and of message types, and the least bytes that a value of a type takes.
+#![tactic(auto)]
+
 pub mod shape;
 
 ghost use Rattle.std.specs.Prelude.{◌≡◌};
 ghost use Rattle.codes.specs.Codes.{type_byte, type_of, is_stop, message_byte, message_of, least_size};
 
-#[derive(Drop)]
+#[derive(Clone, Copy)]
 pub enum TType {
     Stop,
     Void,
@@ -23,7 +25,7 @@ pub enum TType {
     Uuid,
 }
 
-#[derive(Drop)]
+#[derive(Clone, Copy)]
 pub enum TMessageType {
     Call,
     Reply,
@@ -42,13 +44,13 @@ impl TType {
 }
 
 // What a type byte, or a message type byte, stands for.
-#[derive(Drop)]
+#[derive(Clone, Copy)]
 pub enum Typed {
     Known(TType),
     Unknown,
 }
 
-#[derive(Drop)]
+#[derive(Clone, Copy)]
 pub enum Messaged {
     Known(TMessageType),
     Unknown,

@@ -5,7 +5,7 @@ ghost use Rattle.config.specs.Limits.{limits, default_limits, no_limits, limits_
 use crate::limit::Limit;
 use wire::refusal::{Kind, Refusal};
 
-#[derive(Drop)]
+#[derive(Clone, Copy)]
 pub struct TConfiguration {
     pub max_message_size: Limit,
     pub max_frame_size: Limit,
@@ -14,7 +14,7 @@ pub struct TConfiguration {
     pub max_string_size: Limit,
 }
 
-#[derive(Drop)]
+#[derive(Clone, Copy)]
 pub enum Built {
     Limits(TConfiguration),
     Refused(Refusal),

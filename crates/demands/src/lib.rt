@@ -1,2 +1,3 @@
 // No code: the client's demands, sentence by sentence, as one record of statements (specs/Demands), which
 // proofs/Demands gives.
+#![tactic(auto)]

@@ -1,4 +1,6 @@
 // Frames: a size, then as many bytes. The payload of a frame that is read is a part of the lent bytes.
+#![tactic(auto)]
+
 ghost use Rattle.std.specs.Prelude.{◌≡◌};
 ghost use Rattle.wire.specs.Writes.{Wrote};
 ghost use Rattle.text.specs.Texts.{part_found};
@@ -11,7 +13,7 @@ use wire::cursor::{Cursor, Moved};
 use wire::refusal::Refusal;
 
 // A frame by the place of its payload, with the cursor after it, or no more bytes.
-#[derive(Drop)]
+#[derive(Clone, Copy)]
 pub enum FrameRead {
     Frame(Span, Cursor),
     End(Cursor),

@@ -1,4 +1,6 @@
 // The calls for C and Rust: a skip of one value, under the default limits or under any, its answer in a lent record.
+#![tactic(auto)]
+
 ghost use Rattle.std.specs.Prelude.{◌≡◌, ◌≤◌, length};
 ghost use Rattle.wire.specs.Refusals.{kind_number};
 ghost use Rattle.tree.specs.Answers.{cut_off};
@@ -13,7 +15,7 @@ use wire::cursor::Cursor;
 use wire::refusal::{Kind, Refusal};
 
 // What the record is set to: the refusal's number or 0, the end or the refusal's place, the count.
-#[derive(Drop)]
+#[derive(Clone, Copy)]
 struct Row {
     number: u64,
     place: u64,

@@ -1,4 +1,6 @@
 // Values with no value in them, passed: scalars, UUIDs and texts.
+#![tactic(auto)]
+
 ghost use Rattle.std.specs.Prelude.{◌≡◌};
 ghost use Rattle.wire.specs.Answer.{judged, within};
 ghost use Rattle.wire.specs.Refusals.{kind_number};
@@ -12,7 +14,7 @@ use wire::cursor::{Cursor, Moved};
 use wire::refusal::{Kind, Refusal};
 
 // The cursor past a value and the values in it, or the refusal and the values begun.
-#[derive(Drop)]
+#[derive(Clone, Copy)]
 pub enum Walked {
     Passed(Cursor, usize),
     Refused(Refusal, usize),

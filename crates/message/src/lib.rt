@@ -1,4 +1,6 @@
 // A message's header: with a version (strict), or in the older layout that starts with the name.
+#![tactic(auto)]
+
 ghost use Rattle.std.specs.Prelude.{◌≡◌};
 ghost use Rattle.wire.specs.Answer.{stay_at};
 ghost use Rattle.wire.specs.Refusals.{told_moved};
@@ -13,20 +15,20 @@ use text::{Span, TextRead};
 use wire::cursor::{Cursor, Moved};
 use wire::refusal::{Kind, Refusal};
 
-#[derive(Drop)]
+#[derive(Clone, Copy)]
 pub struct TMessageIdentifier {
     pub name: Span,
     pub message_type: TMessageType,
     pub sequence_number: i32,
 }
 
-#[derive(Drop)]
+#[derive(Clone, Copy)]
 pub enum MessageRead {
     Value(TMessageIdentifier, Cursor),
     Refused(Refusal),
 }
 
-#[derive(Drop)]
+#[derive(Clone, Copy)]
 pub enum MessageTypeRead {
     Value(TMessageType, Cursor),
     Refused(Refusal),

@@ -1,4 +1,6 @@
 // Struct begin and end: no byte, but the struct depth, which goes in as a number and is handed on.
+#![tactic(auto)]
+
 ghost use Rattle.std.specs.Prelude.{◌≡◌};
 ghost use Rattle.nesting.specs.Structs.{struct_begin_at, struct_end_at, told_depth};
 
@@ -7,7 +9,7 @@ use wire::cursor::Cursor;
 use wire::refusal::{Kind, Refusal};
 
 // The struct depth from here on, and the cursor.
-#[derive(Drop)]
+#[derive(Clone, Copy)]
 pub enum DepthRead {
     Value(usize, Cursor),
     Refused(Refusal),

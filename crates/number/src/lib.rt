@@ -1,4 +1,6 @@
 // Numbers read at a cursor of a lent slice: the value with the moved cursor, or the refusal.
+#![tactic(auto)]
+
 mod big;
 
 ghost use Rattle.std.specs.Prelude.{◌≡◌};
@@ -8,43 +10,43 @@ ghost use Rattle.number.specs.Told.{told_byte, told_bool, told_i8, told_i16, tol
 use wire::cursor::{Cursor, Moved};
 use wire::refusal::Refusal;
 
-#[derive(Drop)]
+#[derive(Clone, Copy)]
 pub enum ByteRead {
     Value(u8, Cursor),
     Refused(Refusal),
 }
 
-#[derive(Drop)]
+#[derive(Clone, Copy)]
 pub enum BoolRead {
     Value(bool, Cursor),
     Refused(Refusal),
 }
 
-#[derive(Drop)]
+#[derive(Clone, Copy)]
 pub enum I8Read {
     Value(i8, Cursor),
     Refused(Refusal),
 }
 
-#[derive(Drop)]
+#[derive(Clone, Copy)]
 pub enum I16Read {
     Value(i16, Cursor),
     Refused(Refusal),
 }
 
-#[derive(Drop)]
+#[derive(Clone, Copy)]
 pub enum I32Read {
     Value(i32, Cursor),
     Refused(Refusal),
 }
 
-#[derive(Drop)]
+#[derive(Clone, Copy)]
 pub enum I64Read {
     Value(i64, Cursor),
     Refused(Refusal),
 }
 
-#[derive(Drop)]
+#[derive(Clone, Copy)]
 pub enum DoubleRead {
     Value(f64, Cursor),
     Refused(Refusal),

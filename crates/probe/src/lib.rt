@@ -1,4 +1,6 @@
 // Single reads and writes for C and Rust, each asked for by a number, with its answer in a lent record.
+#![tactic(auto)]
+
 mod kept;
 
 ghost use Rattle.config.specs.Limits.{limits_of};

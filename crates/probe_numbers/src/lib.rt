@@ -1,11 +1,13 @@
 // What the numbers of a call stand for: steps and types.
+#![tactic(auto)]
+
 ghost use Rattle.std.specs.Prelude.{◌≡◌};
 ghost use Rattle.probe_numbers.specs.Numbers.{read_step_of, write_step_of, kind_of};
 
 use codes::{TType, Typed};
 
 // The reads that ask for nothing but a place.
-#[derive(Drop)]
+#[derive(Clone, Copy)]
 pub enum Plain {
     Byte,
     Bool,
@@ -26,7 +28,7 @@ pub enum Plain {
 }
 
 // The reads that limits or the struct depth bear on.
-#[derive(Drop)]
+#[derive(Clone, Copy)]
 pub enum Bounded {
     Bytes,
     String,
@@ -40,7 +42,7 @@ pub enum Bounded {
     Limits,
 }
 
-#[derive(Drop)]
+#[derive(Clone, Copy)]
 pub enum ReadStep {
     Plain(Plain),
     Bounded(Bounded),
@@ -50,7 +52,7 @@ pub enum ReadStep {
 }
 
 // The writes that put down a number or the text.
-#[derive(Drop)]
+#[derive(Clone, Copy)]
 pub enum Put {
     Stop,
     Byte,
@@ -66,7 +68,7 @@ pub enum Put {
 }
 
 // The writes that put down one type, and a number.
-#[derive(Drop)]
+#[derive(Clone, Copy)]
 pub enum Headed {
     Field,
     List,
@@ -74,7 +76,7 @@ pub enum Headed {
 }
 
 // The writes that put down nothing.
-#[derive(Drop)]
+#[derive(Clone, Copy)]
 pub enum Still {
     MessageEnd,
     StructBegin,
@@ -85,7 +87,7 @@ pub enum Still {
     MapEnd,
 }
 
-#[derive(Drop)]
+#[derive(Clone, Copy)]
 pub enum WriteStep {
     Put(Put),
     Headed(Headed),

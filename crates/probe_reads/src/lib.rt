@@ -1,4 +1,6 @@
 // Every read by a number: what it is asked with, and the record that it comes to.
+#![tactic(auto)]
+
 ghost use Rattle.std.specs.Prelude.{◌≡◌};
 ghost use Rattle.config.specs.Limits.{limits_of};
 ghost use Rattle.probe_numbers.specs.Numbers.{read_step_of};
@@ -11,7 +13,7 @@ use probe_rows::{Row, Stepped};
 use wire::cursor::Cursor;
 
 // What a read may be asked with.
-#[derive(Drop)]
+#[derive(Clone, Copy)]
 pub struct Reading {
     pub place: usize,
     pub strict: bool,

@@ -1,4 +1,6 @@
 // The record's numbers for each kind of answer.
+#![tactic(auto)]
+
 ghost use Rattle.std.specs.Prelude.{◌≡◌};
 ghost use Rattle.std.specs.Int.{w8, w16, w32, w64};
 ghost use Rattle.wire.specs.Refusals.{kind_number, told_moved};
@@ -29,7 +31,7 @@ use wire::cursor::{Cursor, Moved};
 use wire::refusal::Refusal;
 
 // The refusal's number or 0, the place after or the refusal's, and up to four values.
-#[derive(Drop)]
+#[derive(Clone, Copy)]
 pub struct Row {
     pub number: u64,
     pub place: u64,
@@ -40,7 +42,7 @@ pub struct Row {
 }
 
 // What a step comes to: a record to set, or that there is no such step or type.
-#[derive(Drop)]
+#[derive(Clone, Copy)]
 pub enum Stepped {
     Set(Row),
     Unknown,

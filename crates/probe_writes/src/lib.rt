@@ -1,4 +1,6 @@
 // Every write by a number: what it is asked with, the record that it comes to, and what it leaves in the buffer.
+#![tactic(auto)]
+
 ghost use Rattle.std.specs.Prelude.{◌≡◌, length};
 ghost use Rattle.wire.specs.Writes.{Wrote};
 ghost use Rattle.probe_numbers.specs.Numbers.{write_step_of};
@@ -15,7 +17,7 @@ use write_headers::container::MapType;
 use write_headers::field::FieldId;
 
 // What a write may be asked with.
-#[derive(Drop)]
+#[derive(Clone, Copy)]
 pub struct Writing {
     pub place: usize,
     pub strict: bool,

@@ -1,5 +1,7 @@
 // The leaf writers: a number, or bytes alone and behind their size, at the front of a lent slice. Where there is no
 // room for all of it, nothing is written, and nothing is told: the writers that call them have judged room and length.
+#![tactic(auto)]
+
 ghost use Rattle.std.specs.Prelude.{◌≡◌, [], ◌∷◌};
 ghost use Rattle.wire.specs.Writes.{in_front};
 ghost use Rattle.number.specs.BigEndian.{bytes_of};

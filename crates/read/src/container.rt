@@ -13,38 +13,38 @@ use text::SizeRead;
 use wire::cursor::{Cursor, Moved};
 use wire::refusal::{Kind, Refusal};
 
-#[derive(Drop)]
+#[derive(Clone, Copy)]
 pub struct TListIdentifier {
     pub element_type: TType,
     pub size: i32,
 }
 
-#[derive(Drop)]
+#[derive(Clone, Copy)]
 pub struct TSetIdentifier {
     pub element_type: TType,
     pub size: i32,
 }
 
-#[derive(Drop)]
+#[derive(Clone, Copy)]
 pub struct TMapIdentifier {
     pub key_type: TType,
     pub value_type: TType,
     pub size: i32,
 }
 
-#[derive(Drop)]
+#[derive(Clone, Copy)]
 pub enum ListRead {
     Value(TListIdentifier, Cursor),
     Refused(Refusal),
 }
 
-#[derive(Drop)]
+#[derive(Clone, Copy)]
 pub enum SetRead {
     Value(TSetIdentifier, Cursor),
     Refused(Refusal),
 }
 
-#[derive(Drop)]
+#[derive(Clone, Copy)]
 pub enum MapRead {
     Value(TMapIdentifier, Cursor),
     Refused(Refusal),

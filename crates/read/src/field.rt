@@ -10,20 +10,20 @@ use number::{ByteRead, I16Read};
 use wire::cursor::{Cursor, Moved};
 use wire::refusal::{Kind, Refusal};
 
-#[derive(Drop)]
+#[derive(Clone, Copy)]
 pub enum TypeRead {
     Value(TType, Cursor),
     Refused(Refusal),
 }
 
 // The field's type and id; a Stop has id 0.
-#[derive(Drop)]
+#[derive(Clone, Copy)]
 pub struct TFieldIdentifier {
     pub field_type: TType,
     pub id: i16,
 }
 
-#[derive(Drop)]
+#[derive(Clone, Copy)]
 pub enum FieldRead {
     Value(TFieldIdentifier, Cursor),
     Refused(Refusal),

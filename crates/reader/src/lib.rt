@@ -1,5 +1,7 @@
 // A reader that keeps a frame's bytes and a place in one record. It is handed over by value: a call answers with the
 // place after what it read, and a new reader is made to stand there.
+#![tactic(auto)]
+
 ghost use Rattle.std.specs.Prelude.{◌≡◌};
 ghost use Rattle.config.specs.Limits.{default_limits};
 ghost use Rattle.read.specs.Headers.{field_at};
@@ -12,7 +14,7 @@ use read::field::FieldRead;
 use skip::till_depth::Skipped;
 use wire::cursor::Cursor;
 
-#[derive(Drop)]
+#[derive(Clone, Copy)]
 pub struct Reader<'a> {
     pub payload: &'a [u8],
     pub at: usize,

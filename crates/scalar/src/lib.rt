@@ -1,4 +1,6 @@
 // A typed scalar read: one case of the answer for each scalar type.
+#![tactic(auto)]
+
 ghost use Rattle.std.specs.Prelude.{◌≡◌};
 ghost use Rattle.wire.specs.Answer.{mapped};
 ghost use Rattle.scalar.specs.Scalars.{scalar_at, wrong_at, told_scalar};
@@ -10,7 +12,7 @@ use number::{BoolRead, DoubleRead, I8Read, I16Read, I32Read, I64Read};
 use wire::cursor::Cursor;
 use wire::refusal::{Kind, Refusal};
 
-#[derive(Drop)]
+#[derive(Clone, Copy)]
 pub enum Scalar {
     Bool(bool),
     I08(i8),
@@ -20,7 +22,7 @@ pub enum Scalar {
     Double(f64),
 }
 
-#[derive(Drop)]
+#[derive(Clone, Copy)]
 pub enum ScalarRead {
     Value(Scalar, Cursor),
     Refused(Refusal),

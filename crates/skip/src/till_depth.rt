@@ -12,7 +12,7 @@ use wire::refusal::{Kind, Refusal};
 pub const MAXIMUM_SKIP_DEPTH: usize = 64;
 
 // The cursor past the value, the struct depth as it was and the number of values; or the refusal and the values begun.
-#[derive(Drop)]
+#[derive(Clone, Copy)]
 pub enum Skipped {
     Passed {
         next: Cursor,

@@ -1,5 +1,7 @@
 // One value, whatever its type. A value's skip calls that of a struct, a list or a map, and they call back for each
 // child with the depth less one, so the depth bounds the calls.
+#![tactic(auto)]
+
 ghost use Rattle.std.specs.Prelude.{◌≡◌, ◌<◌};
 ghost use Rattle.tree.specs.Coding.{fields, items, pairs};
 ghost use Rattle.tree.specs.Answers.{Answers, EachAnswers};

@@ -1,4 +1,6 @@
 // A size, then as many bytes: texts, names and frames are read here, and their bytes handed out.
+#![tactic(auto)]
+
 ghost use Rattle.std.specs.Prelude.{◌≡◌};
 ghost use Rattle.wire.specs.Refusals.{kind_number};
 ghost use Rattle.text.specs.Texts.{over_number, size_at, limited_at, sized_at, bytes_at, string_at, uuid_at, part_marked, part_found};
@@ -11,26 +13,26 @@ use wire::cursor::{Cursor, Moved};
 use wire::refusal::{Kind, Refusal};
 
 // From its first byte up to the one after its last.
-#[derive(Drop)]
+#[derive(Clone, Copy)]
 pub struct Span {
     pub start: usize,
     pub end: usize,
 }
 
-#[derive(Drop)]
+#[derive(Clone, Copy)]
 pub enum SizeRead {
     Value(usize, Cursor),
     Refused(Refusal),
 }
 
-#[derive(Drop)]
+#[derive(Clone, Copy)]
 pub enum TextRead {
     Value(Span, Cursor),
     Refused(Refusal),
 }
 
 // What a size counts the bytes of: each has a refusal of its own above its limit.
-#[derive(Drop)]
+#[derive(Clone, Copy)]
 pub enum Body {
     Text,
     Frame,

@@ -1,4 +1,6 @@
 // Whether a text is UTF-8 (RFC 3629), and how far.
+#![tactic(auto)]
+
 ghost use Rattle.std.specs.Prelude.{◌≡◌, [], ◌∷◌, drop};
 ghost use Rattle.utf8.specs.UpTo.{table, fits, width, up_to};
 

@@ -3,7 +3,7 @@ ghost use Rattle.std.specs.Prelude.{◌≡◌};
 ghost use Rattle.wire.specs.Refusals.{kind_number};
 
 // In the order of 01's table, so that the first is 1.
-#[derive(Drop)]
+#[derive(Clone, Copy)]
 pub enum Kind {
     ShortInput,
     StartBeyond,
@@ -27,7 +27,7 @@ pub enum Kind {
     DepthBeyond,
 }
 
-#[derive(Drop)]
+#[derive(Clone, Copy)]
 pub struct Refusal {
     pub kind: Kind,
     pub place: usize,

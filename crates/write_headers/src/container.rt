@@ -11,7 +11,7 @@ use read::container::{TListIdentifier, TSetIdentifier};
 use wire::cursor::{Cursor, Moved};
 
 // A map's key or value type, which must be there.
-#[derive(Drop)]
+#[derive(Clone, Copy)]
 pub enum MapType {
     Absent,
     Of(TType),

@@ -12,7 +12,7 @@ use wire::cursor::{Cursor, Moved};
 use wire::refusal::{Kind, Refusal};
 
 // A field's id, which a Stop may lack.
-#[derive(Drop)]
+#[derive(Clone, Copy)]
 pub enum FieldId {
     Absent,
     Of(i16),

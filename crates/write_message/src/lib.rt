@@ -1,4 +1,6 @@
 // A message's header: with a version (strict), or in the older layout that starts with the name.
+#![tactic(auto)]
+
 ghost use Rattle.std.specs.Prelude.{true, false, ◌≡◌, ◌+◌, ◌≤◌, length};
 ghost use Rattle.wire.specs.Answer.{stay_at};
 ghost use Rattle.wire.specs.Refusals.{told_moved};

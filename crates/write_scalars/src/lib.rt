@@ -1,5 +1,7 @@
 // Bytes, bools, numbers and doubles into a lent buffer at a cursor: the moved cursor, or the refusal with the buffer as
 // it was.
+#![tactic(auto)]
+
 ghost use Rattle.wire.specs.Writes.{Wrote, put_at};
 ghost use Rattle.number.specs.BigEndian.{bytes_of};
 ghost use Rattle.write.specs.Outputs.{byte_write, bool_write, i8_write, i16_write, i32_write, i64_write, double_write};
