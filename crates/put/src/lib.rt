@@ -81,7 +81,7 @@ pub fn put_bytes(out: &mut [u8], src: &[u8])
     if out.len() < src.len() {
         return;
     }
-    bytes::copy(src, out);
+    out[..src.len()].copy_from_slice(src);
 }
 
 // Bytes in front, behind their length in 32 bits: texts, names and frames are written here. Refuses nothing.

@@ -1,0 +1,16 @@
+-- Assumes nothing.
+use borrow.Author.Rules.{rules}
+use mathlib.Core.Path.{sym, ◌∙◌}
+use Rattle.number.specs.Told.{told_byte}
+use Rattle.wire.proofs.Answers.{told_as}
+use Rattle.message.proofs.Messages.{no_message_byte, message_known, message_unknown}
+use Rattle.message.proofs.read_message_type.Goals as goal
+
+pub returns-in-Known : goal.returns-in-Known
+returns-in-Known c = message_known _ _ (told_as told_byte c.in-Value.is c.read_byte.ensures) (sym c.message_type_from_u8.ensures ∙ c.in-Known.is)
+
+pub returns-in-Unknown : goal.returns-in-Unknown
+returns-in-Unknown c = message_unknown _ _ (told_as told_byte c.in-Value.is c.read_byte.ensures) (sym c.message_type_from_u8.ensures ∙ c.in-Unknown.is)
+
+pub returns-in-Refused : goal.returns-in-Refused
+returns-in-Refused c = no_message_byte _ _ (told_as told_byte c.in-Refused.is c.read_byte.ensures)

@@ -1,0 +1,7 @@
+-- Assumes nothing.
+use borrow.Author.Rules.{rules}
+use native.Mathlib.Omega.{arith}
+use Rattle.number.proofs.big.join16.Goals as goal
+
+pub returns : goal.returns
+returns c = omega arith

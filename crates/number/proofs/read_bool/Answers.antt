@@ -1,0 +1,18 @@
+-- Assumes nothing.
+use borrow.Author.Rules.{rules}
+use native.Mathlib.Omega.{arith}
+use mathlib.Core.Path.{refl}
+use mathlib.Core.Bool.{not}
+use Prim.Native.Nat.{ℕ}
+use lib.Dec.{eqb}
+use Rattle.number.proofs.Widths.{fits, read, refuses}
+use Rattle.number.proofs.read_bool.Goals as goal
+
+pub bounds-bytes-at : goal.bounds-bytes-at
+bounds-bytes-at c = omega (arith, fits 1 (λ (n : ℕ). not (eqb n 0)) _ _ c.in-To.is c.past.ensures)
+
+pub returns-in-To : goal.returns-in-To
+returns-in-To c =     read 1 (λ (n : ℕ). not (eqb n 0)) _ _ c.in-To.is c.past.ensures refl
+
+pub returns-in-Refused : goal.returns-in-Refused
+returns-in-Refused c = refuses 1 (λ (n : ℕ). not (eqb n 0)) _ _ c.in-Refused.is c.past.ensures
