@@ -1,0 +1,6 @@
+-- Assumes nothing.
+use borrow.Author.Rules.{rules}
+use Rattle.host.proofs.thrift_skip.Goals as goal
+
+pub returns : goal.returns
+returns c = rw c.default.ensures at c.answer.ensures

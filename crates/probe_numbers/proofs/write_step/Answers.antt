@@ -1,0 +1,82 @@
+-- Assumes nothing.
+use mathlib.Core.Path.{sym, ap}
+use mathlib.Core.Bool.{true, true≢false}
+use Rattle.codes.proofs.Tables.{missed}
+use Rattle.probe_numbers.specs.declared.WriteStep.TheVariants.{Unknown}
+use Rattle.probe_numbers.specs.Numbers.{write_step_of, writes}
+use Rattle.probe_numbers.proofs.write_step.Goals as goal
+
+pub returns-in-0 : goal.returns-in-0
+returns-in-0 c = sym (ap write_step_of c.in-0.is)
+
+pub returns-in-1 : goal.returns-in-1
+returns-in-1 c = sym (ap write_step_of c.in-1.is)
+
+pub returns-in-2 : goal.returns-in-2
+returns-in-2 c = sym (ap write_step_of c.in-2.is)
+
+pub returns-in-3 : goal.returns-in-3
+returns-in-3 c = sym (ap write_step_of c.in-3.is)
+
+pub returns-in-4 : goal.returns-in-4
+returns-in-4 c = sym (ap write_step_of c.in-4.is)
+
+pub returns-in-5 : goal.returns-in-5
+returns-in-5 c = sym (ap write_step_of c.in-5.is)
+
+pub returns-in-6 : goal.returns-in-6
+returns-in-6 c = sym (ap write_step_of c.in-6.is)
+
+pub returns-in-7 : goal.returns-in-7
+returns-in-7 c = sym (ap write_step_of c.in-7.is)
+
+pub returns-in-8 : goal.returns-in-8
+returns-in-8 c = sym (ap write_step_of c.in-8.is)
+
+pub returns-in-9 : goal.returns-in-9
+returns-in-9 c = sym (ap write_step_of c.in-9.is)
+
+pub returns-in-10 : goal.returns-in-10
+returns-in-10 c = sym (ap write_step_of c.in-10.is)
+
+pub returns-in-11 : goal.returns-in-11
+returns-in-11 c = sym (ap write_step_of c.in-11.is)
+
+pub returns-in-12 : goal.returns-in-12
+returns-in-12 c = sym (ap write_step_of c.in-12.is)
+
+pub returns-in-13 : goal.returns-in-13
+returns-in-13 c = sym (ap write_step_of c.in-13.is)
+
+pub returns-in-14 : goal.returns-in-14
+returns-in-14 c = sym (ap write_step_of c.in-14.is)
+
+pub returns-in-15 : goal.returns-in-15
+returns-in-15 c = sym (ap write_step_of c.in-15.is)
+
+pub returns-in-16 : goal.returns-in-16
+returns-in-16 c = sym (ap write_step_of c.in-16.is)
+
+pub returns-in-17 : goal.returns-in-17
+returns-in-17 c = sym (ap write_step_of c.in-17.is)
+
+pub returns-in-18 : goal.returns-in-18
+returns-in-18 c = sym (ap write_step_of c.in-18.is)
+
+pub returns-in-19 : goal.returns-in-19
+returns-in-19 c = sym (ap write_step_of c.in-19.is)
+
+pub returns-in-20 : goal.returns-in-20
+returns-in-20 c = sym (ap write_step_of c.in-20.is)
+
+pub returns-in-21 : goal.returns-in-21
+returns-in-21 c = sym (ap write_step_of c.in-21.is)
+
+pub returns-in-22 : goal.returns-in-22
+returns-in-22 c = sym (ap write_step_of c.in-22.is)
+
+pub returns-in-23 : goal.returns-in-23
+returns-in-23 c = sym (ap write_step_of c.in-23.is)
+
+pub returns-in_default : goal.returns-in_default
+returns-in_default c = missed (λ a. true) Unknown (λ a e. absurd (true≢false e)) writes _ c.in_default.in_default-own.rest

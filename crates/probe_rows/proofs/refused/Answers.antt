@@ -1,0 +1,6 @@
+-- Assumes nothing.
+use borrow.Author.Rules.{rules}
+use Rattle.probe_rows.proofs.refused.Goals as goal
+
+pub returns : goal.returns
+returns c = rw c.number.ensures
