@@ -11,7 +11,7 @@
  * thrift_skip works under the default limits. thrift_skip_within works under the caller's own, and inside structs that
  * the caller has begun: what a reader wants who meets an unknown field.
  *
- * The functions stand in libhost.a, which `rt staticlib host` proves and writes for x86-64. What is said of them here
+ * The functions stand in libhost.a, which `tools/staticlib host` proves and writes for x86-64. What is said of them here
  * is proved of their source for every input. That these declarations are the compiled functions' is not: examples/c
  * checks them by calling them.
  */

@@ -1,7 +1,7 @@
 //! Finds the port's archives and links them.
 //!
 //! They stand in the folder that `TURMYSHGE_ARCHIVE_DIR` names, or else in `target/staticlib` of the repository, where
-//! `rt staticlib host` writes them. A relative folder is meant from where cargo is called, by the caller's `PWD`, as
+//! `tools/staticlib host` writes them. A relative folder is meant from where cargo is called, by the caller's `PWD`, as
 //! cargo itself runs this in the package's folder; where no archive is there, it is meant from the package's folder.
 
 use std::env;
@@ -37,7 +37,7 @@ fn link(folder: &Path, name: &str) {
     println!("cargo:rerun-if-changed={}", archive.display());
     assert!(
         archive.is_file(),
-        "{} is not there: run `rt staticlib {name}` in the repository, or name its folder in \
+        "{} is not there: run `tools/staticlib {name}` in the repository, or name its folder in \
          TURMYSHGE_ARCHIVE_DIR",
         archive.display()
     );

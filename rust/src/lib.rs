@@ -25,7 +25,7 @@
 //! [`Skip`] does it under limits of the caller's own and inside structs that are open already.
 //!
 //! [`steps`] has the words in which single reads and writes are asked for. With the feature `steps` it also has the
-//! calls themselves, over a second archive (`rt staticlib probe`).
+//! calls themselves, over a second archive (`tools/staticlib probe`).
 #![deny(unsafe_code)]
 #![deny(missing_docs)]
 

@@ -18,7 +18,7 @@ use Rattle.codes.specs.declared.shape.Shape.TheVariants as Sh
 use Rattle.config.specs.declared.configuration.TConfiguration.{TConfiguration}
 use Rattle.number.proofs.Widths.{Octets, length-bytes_of}
 use Rattle.text.specs.declared.Span.{Span}
-use Rattle.text.specs.declared.Body.TheVariants as Body-of
+use Rattle.text.specs.declared.Body.TheVariants as BodyOf
 use Rattle.text.specs.Texts.{bytes_at, sized_layout}
 use Rattle.read.specs.declared.field.TFieldIdentifier.{TFieldIdentifier}
 use Rattle.read.specs.Headers.{field_at, list_at, map_at}
@@ -181,7 +181,7 @@ binary_places =
   where
     shape : (c : TConfiguration) (k : Shape) (s : List ℕ) (at : ℕ) → Later at ((seen_as k).read c s at)
     shape c (Sh.Fixed w) s at = within_later s at w
-    shape c Sh.Text s at = mapped_later (λ _. tt) at _ (places.sized_later s Body-of.Text c.max_string_size at)
+    shape c Sh.Text s at = mapped_later (λ _. tt) at _ (places.sized_later s BodyOf.Text c.max_string_size at)
     shape c Sh.Fields s at = here_later 12 at
     shape c Sh.Items s at = here_later 12 at
     shape c Sh.Pairs s at = here_later 12 at

@@ -14,7 +14,7 @@ use Rattle.number.specs.Reads.{byte_at, i16_at, i32_at}
 use Rattle.config.specs.declared.configuration.TConfiguration.{TConfiguration}
 use Rattle.text.specs.Texts.{size_at, sized_at, bytes_at, limited_at}
 use Rattle.text.proofs.Texts.{limited_is}
-use Rattle.text.specs.declared.Body.TheVariants as Body-of
+use Rattle.text.specs.declared.Body.TheVariants as BodyOf
 use Rattle.read.specs.Headers.{type_at, field, field_at, count_at, list_at, map_at}
 use Rattle.tree.specs.Room.{Roomier, Unnamed}
 use Rattle.tree.proofs.Growth.{Grows, grows_same, grows_limit, grows_then, within_grows, number_grows}
@@ -49,12 +49,12 @@ module _ (old new : TConfiguration) (r : Roomier old new) (d e : ℕ) (more : d 
   pub text_grows : (at : ℕ) → at ≤ length s → Grows K (bytes_at old.max_string_size s at) (bytes_at new.max_string_size (s ++ x) at)
   unfolding sized_at limited_at
   text_grows at h =
-      grows_then K (limited_at Body-of.Text old.max_string_size s at) (limited_at Body-of.Text new.max_string_size (s ++ x) at) _ _
+      grows_then K (limited_at BodyOf.Text old.max_string_size s at) (limited_at BodyOf.Text new.max_string_size (s ++ x) at) _ _
       (grows_then K (size_at s at) (size_at (s ++ x) at) _ _ (size_grows K s x (λ k. k.short refl) at h) (λ n q f.
       grows_limit K n old.max_string_size new.max_string_size 7 at _ _ r.string (λ k. k.string refl) (grows_same K (gives n q))))
       (λ n q f.
       grows_then K (within s q n) (within (s ++ x) q n) _ _
-      (within_grows K s x (λ k. k.short refl) q n (size_from s at (limited_is Body-of.Text old.max_string_size s at f).size).1) (λ u p g. grows_same K _))
+      (within_grows K s x (λ k. k.short refl) q n (size_from s at (limited_is BodyOf.Text old.max_string_size s at f).size).1) (λ u p g. grows_same K _))
 
   pub count_grows : (least at : ℕ) → at ≤ length s → Grows K (count_at old least s at) (count_at new least (s ++ x) at)
   unfolding count_at

@@ -17,7 +17,7 @@ use Rattle.wire.specs.Answer.{Answer, gives, refused, and_then, within}
 use Rattle.codes.specs.Codes.{type_byte, type_of, is_stop, least_size}
 use Rattle.codes.specs.declared.TType.{TType}
 use Rattle.codes.specs.declared.Typed.{Typed}
-use Rattle.codes.specs.declared.Typed.TheVariants as Type-of
+use Rattle.codes.specs.declared.Typed.TheVariants as TypeOf
 use Rattle.wire.proofs.Answers.{passed, went}
 use Rattle.codes.proofs.RoundTrips.{type_read}
 use Rattle.wire.proofs.Within.{inside}
@@ -29,7 +29,7 @@ use Rattle.config.specs.declared.configuration.TConfiguration.{TConfiguration}
 use Rattle.text.specs.Texts.{size_at, sized_at, bytes_at, limited_at}
 use Rattle.text.proofs.Texts.{size_below, limited_is}
 use Rattle.text.specs.declared.Span.{Span}
-use Rattle.text.specs.declared.Body.TheVariants as Body-of
+use Rattle.text.specs.declared.Body.TheVariants as BodyOf
 use Rattle.codes.specs.declared.TType.TheVariants as T
 use Rattle.read.specs.declared.container.TListIdentifier.{TListIdentifier}
 use Rattle.read.specs.declared.container.TMapIdentifier.{TMapIdentifier}
@@ -53,15 +53,15 @@ type_is s at {t} {next} e =
     go a.value a.place (byte_part s at a.gave) (type_of a.value) refl a.on
   where
     go : (b q : ℕ) → Part s at q (b ∷ []) → (k : Typed) → type_of b ≡ k → gives t next ≡ known at q k → TypeIs s at t next
-    go b q p (Type-of.Known u) f h =
+    go b q p (TypeOf.Known u) f h =
         let same : u ≡ t = cc in
         let place : q ≡ next = cc in
-        let code : type_byte t ≡ b = type_read b t (f ∙ ap Type-of.Known same) in
+        let code : type_byte t ≡ b = type_read b t (f ∙ ap TypeOf.Known same) in
         record {
           part = part_to next (part_is p (ap (λ (n : ℕ). n ∷ []) (sym code))) place;
-          reads = ap type_of code ∙ f ∙ ap Type-of.Known same;
+          reads = ap type_of code ∙ f ∙ ap TypeOf.Known same;
         }
-    go b q p Type-of.Unknown f h = clash (cc)
+    go b q p TypeOf.Unknown f h = clash (cc)
 
 -- a 32-bit number that is not negative is its bits
 pub as_it_stands : (n : ℕ) → lt_z (to_z w32 n) (pos 0) ≡ false → nat_abs (to_z w32 n) ≡ n
@@ -110,9 +110,9 @@ pub record TextIs (c : TConfiguration) (s : List ℕ) (at e : ℕ) : Type 0 wher
 pub text_is : (c : TConfiguration) (s : List ℕ) (at : ℕ) → Octets s → {p : Span} {e : ℕ} → gives p e ≡ bytes_at c.max_string_size s at → TextIs c s at e
 unfolding sized_at
 text_is c s at o {p} {e} h =
-    let a = went (limited_at Body-of.Text c.max_string_size s at) _ h in
+    let a = went (limited_at BodyOf.Text c.max_string_size s at) _ h in
     let n = a.value in
-    let b = limited_is Body-of.Text c.max_string_size s at a.gave in
+    let b = limited_is BodyOf.Text c.max_string_size s at a.gave in
     let w = went (within s a.place n) _ a.on in
     let i = inside s a.place n w.gave in
     let z = size_is s at o b.size in

@@ -10,7 +10,7 @@ use Rattle.wire.specs.Answer.{gives, and_then, within}
 use Rattle.codes.specs.Codes.{type_of, is_stop, least_size}
 use Rattle.codes.specs.declared.TType.{TType}
 use Rattle.codes.specs.declared.Typed.{Typed}
-use Rattle.codes.specs.declared.Typed.TheVariants as Type-of
+use Rattle.codes.specs.declared.Typed.TheVariants as TypeOf
 use Rattle.number.specs.Reads.{byte_at, i16_at, i32_at}
 use Rattle.config.specs.declared.limit.Limit.{Limit}
 use Rattle.config.specs.declared.configuration.TConfiguration.{TConfiguration}
@@ -27,8 +27,8 @@ module _ (s : List ℕ) where
   type_later at = then_later at (byte_at s at) _ (digits-later s 1 (λ (n : ℕ). n) at) (λ b q e. by_known (type_of b) q)
     where
       by_known : (k : Typed) (q : ℕ) → Later at (known at q k)
-      by_known (Type-of.Known t) q = gives_later t q at
-      by_known Type-of.Unknown q = here_later 5 at
+      by_known (TypeOf.Known t) q = gives_later t q at
+      by_known TypeOf.Unknown q = here_later 5 at
 
   pub field_later : (at : ℕ) → Later at (field_at s at)
   unfolding field_at

@@ -24,7 +24,7 @@ use Rattle.config.specs.declared.configuration.TConfiguration.{TConfiguration}
 use Rattle.text.specs.Texts.{span, sized_layout, size_at, sized_at, bytes_at}
 use Rattle.text.proofs.Texts as texts
 use Rattle.text.specs.declared.Body.{Body}
-use Rattle.text.specs.declared.Body.TheVariants as Body-of
+use Rattle.text.specs.declared.Body.TheVariants as BodyOf
 use Rattle.read.specs.Headers.{type_at, field, field_at, count_at, list, list_at, map, map_at}
 use Rattle.read.proofs.Headers as headers
 use Rattle.tree.specs.Part.{Part}
@@ -59,7 +59,7 @@ sized_reads {s} {at} {e} body limit b f g p =
 
 pub text_reads : {s : List ℕ} {at e : ℕ} (c : TConfiguration) (b : List ℕ) → LengthFits c (length b) → Part s at e (sized_layout b)
     → gives (span (at + 4) e) e ≡ bytes_at c.max_string_size s at
-text_reads c b f p = sized_reads Body-of.Text c.max_string_size b f.not_negative f.string p
+text_reads c b f p = sized_reads BodyOf.Text c.max_string_size b f.not_negative f.string p
 
 pub count_reads : {s : List ℕ} {at e : ℕ} (c : TConfiguration) (least n : ℕ) → SizeFits c least n → Part s at e (bytes_of 4 n)
     → gives n e ≡ count_at c least s at

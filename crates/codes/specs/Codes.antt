@@ -5,9 +5,9 @@ use Rattle.codes.specs.declared.TType.TheVariants as T
 use Rattle.codes.specs.declared.TMessageType.{TMessageType}
 use Rattle.codes.specs.declared.TMessageType.TheVariants as M
 use Rattle.codes.specs.declared.Typed.{Typed}
-use Rattle.codes.specs.declared.Typed.TheVariants as Type-of
+use Rattle.codes.specs.declared.Typed.TheVariants as TypeOf
 use Rattle.codes.specs.declared.Messaged.{Messaged}
-use Rattle.codes.specs.declared.Messaged.TheVariants as Message-of
+use Rattle.codes.specs.declared.Messaged.TheVariants as MessageOf
 
 -- the byte that a type is written as
 abbrev pub type_byte : TType → ℕ
@@ -30,27 +30,27 @@ type_byte T.Uuid = 0x10
 -- what each byte is read as, from 00 on: 0B as String; 05, 07 and 09 stand for nothing, and so do all above 10 (hex)
 abbrev pub types : List Typed
 types =
-    Type-of.Known T.Stop  -- 00
-    ∷ Type-of.Known T.Void  -- 01
-    ∷ Type-of.Known T.Bool  -- 02
-    ∷ Type-of.Known T.I08  -- 03
-    ∷ Type-of.Known T.Double  -- 04
-    ∷ Type-of.Unknown  -- 05
-    ∷ Type-of.Known T.I16  -- 06
-    ∷ Type-of.Unknown  -- 07
-    ∷ Type-of.Known T.I32  -- 08
-    ∷ Type-of.Unknown  -- 09
-    ∷ Type-of.Known T.I64  -- 0A
-    ∷ Type-of.Known T.String  -- 0B
-    ∷ Type-of.Known T.Struct  -- 0C
-    ∷ Type-of.Known T.Map  -- 0D
-    ∷ Type-of.Known T.Set  -- 0E
-    ∷ Type-of.Known T.List  -- 0F
-    ∷ Type-of.Known T.Uuid  -- 10
+    TypeOf.Known T.Stop  -- 00
+    ∷ TypeOf.Known T.Void  -- 01
+    ∷ TypeOf.Known T.Bool  -- 02
+    ∷ TypeOf.Known T.I08  -- 03
+    ∷ TypeOf.Known T.Double  -- 04
+    ∷ TypeOf.Unknown  -- 05
+    ∷ TypeOf.Known T.I16  -- 06
+    ∷ TypeOf.Unknown  -- 07
+    ∷ TypeOf.Known T.I32  -- 08
+    ∷ TypeOf.Unknown  -- 09
+    ∷ TypeOf.Known T.I64  -- 0A
+    ∷ TypeOf.Known T.String  -- 0B
+    ∷ TypeOf.Known T.Struct  -- 0C
+    ∷ TypeOf.Known T.Map  -- 0D
+    ∷ TypeOf.Known T.Set  -- 0E
+    ∷ TypeOf.Known T.List  -- 0F
+    ∷ TypeOf.Known T.Uuid  -- 10
     ∷ []
 
 abbrev pub type_of : ℕ → Typed
-type_of b = get_or types b Type-of.Unknown
+type_of b = get_or types b TypeOf.Unknown
 
 -- a type that ends a struct's fields: the one of byte 00
 abbrev pub is_stop : TType → Bool
@@ -84,15 +84,15 @@ message_byte M.OneWay = 4
 -- what each byte is read as, from 0 on
 abbrev pub messages : List Messaged
 messages =
-    Message-of.Unknown  -- 0
-    ∷ Message-of.Known M.Call  -- 1
-    ∷ Message-of.Known M.Reply  -- 2
-    ∷ Message-of.Known M.Exception  -- 3
-    ∷ Message-of.Known M.OneWay  -- 4
+    MessageOf.Unknown  -- 0
+    ∷ MessageOf.Known M.Call  -- 1
+    ∷ MessageOf.Known M.Reply  -- 2
+    ∷ MessageOf.Known M.Exception  -- 3
+    ∷ MessageOf.Known M.OneWay  -- 4
     ∷ []
 
 abbrev pub message_of : ℕ → Messaged
-message_of b = get_or messages b Message-of.Unknown
+message_of b = get_or messages b MessageOf.Unknown
 
 -- rule 9's least sizes, as the crate counts them
 abbrev pub least_size : TType → ℕ

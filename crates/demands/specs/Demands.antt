@@ -44,7 +44,7 @@ use Rattle.skip.specs.declared.till_depth.Skipped.{Skipped}
 use Rattle.write.specs.Found.{Finds, Found}
 use Rattle.write.specs.Outputs.{bool_write, i8_write, i16_write, i32_write, i64_write, double_write, uuid_write, bytes_write, string_write}
 use Rattle.write_headers.specs.Outputs.{field_write, stop_write, list_write, map_write}
-use Rattle.write_headers.specs.declared.container.MapType.TheVariants as Of-map
+use Rattle.write_headers.specs.declared.container.MapType.TheVariants as OfMap
 use Rattle.write_headers.specs.declared.field.FieldId.TheVariants as Id
 use Rattle.write_message.specs.Outputs.{message_write}
 use Rattle.framed.specs.Frames.{frame, frame_at, frame_write}
@@ -131,7 +131,7 @@ module _ (out : List ℕ) (at : ℕ) (new : List ℕ) (next : ℕ) where
     pub set_back : (c : TConfiguration) (t : TType) (n : ℕ) → SizeFits c (least_size (as_read t)) n → gives new next ≡ list_write t (pos n) out at
         → gives (as_set (list (as_read t) n)) next ≡ set_at c new at
     pub map_back : (c : TConfiguration) (k v : TType) (n : ℕ) → SizeFits c (least_size (as_read k) + least_size (as_read v)) n
-        → gives new next ≡ map_write (Of-map.Of k) (Of-map.Of v) (pos n) out at → gives (map (as_read k) (as_read v) n) next ≡ map_at c new at
+        → gives new next ≡ map_write (OfMap.Of k) (OfMap.Of v) (pos n) out at → gives (map (as_read k) (as_read v) n) next ≡ map_at c new at
     -- "a legacy message needs a non-strict reader"
     pub strict_back : (limit : Limit) (name : List ℕ) (t : TMessageType) (seq : ℤ) → above (length name) limit ≡ false → SFits w32 seq → (reader : Bool)
         → gives new next ≡ message_write true name t seq out at → Finds (λ (p : Span). message p t seq) new name (message_at reader limit new at) next

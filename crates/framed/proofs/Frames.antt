@@ -11,12 +11,12 @@ use Rattle.wire.proofs.Unique.{settled}
 use Rattle.config.specs.declared.limit.Limit.{Limit}
 use Rattle.text.specs.Texts.{sized_at}
 use Rattle.text.specs.declared.Span.{Span}
-use Rattle.text.specs.declared.Body.TheVariants as Body-of
+use Rattle.text.specs.declared.Body.TheVariants as BodyOf
 use Rattle.write.specs.Outputs.{bytes_output}
 use Rattle.framed.specs.Frames.{Next, frame, end, frame_at, frame_output}
 use Rattle.framed.specs.Told.{told_frame}
 use Rattle.framed.specs.declared.FrameRead.{FrameRead}
-use Rattle.framed.specs.declared.FrameRead.TheVariants as Frame-is
+use Rattle.framed.specs.declared.FrameRead.TheVariants as FrameIs
 
 module _ (limit : Limit) (s : List ℕ) (at : ℕ) where
   pub at_end : at ≡ length s → gives end at ≡ frame_at limit s at
@@ -24,11 +24,11 @@ module _ (limit : Limit) (s : List ℕ) (at : ℕ) where
   at_end e = simp (eq-eqb _ _ e)
 
   module _ (h : at ≡ length s → ⊥) where
-    pub no_frame : {n p : ℕ} → refused n p ≡ sized_at Body-of.Frame limit s at → refused n p ≡ frame_at limit s at
+    pub no_frame : {n p : ℕ} → refused n p ≡ sized_at BodyOf.Frame limit s at → refused n p ≡ frame_at limit s at
     unfolding frame_at
     no_frame e = simp (ne_eqb _ _ h, ← e)
 
-    pub a_frame : {p : Span} {next : ℕ} → gives p next ≡ sized_at Body-of.Frame limit s at → gives (frame p) next ≡ frame_at limit s at
+    pub a_frame : {p : Span} {next : ℕ} → gives p next ≡ sized_at BodyOf.Frame limit s at → gives (frame p) next ≡ frame_at limit s at
     unfolding frame_at
     a_frame e = simp (ne_eqb _ _ h, ← e)
 
@@ -43,15 +43,15 @@ module _ (payload : List ℕ) (at : ℕ) where
 
 -- an answer is had back from what it tells
 back : Answer Next → FrameRead
-back (gives (frame p) next) = Frame-is.Frame p (record { at = next })
-back (gives end next) = Frame-is.End (record { at = next })
-back (refused n p) = Frame-is.Refused (refusal_of n p)
+back (gives (frame p) next) = FrameIs.Frame p (record { at = next })
+back (gives end next) = FrameIs.End (record { at = next })
+back (refused n p) = FrameIs.Refused (refusal_of n p)
 
 pub frame_settled : {a b : FrameRead} {m : Answer Next} → told_frame a ≡ m → told_frame b ≡ m → a ≡ b
 unfolding back
 frame_settled = settled told_frame back same
   where
     same : (a : FrameRead) → back (told_frame a) ≡ a
-    same (Frame-is.Frame p c) = refl
-    same (Frame-is.End c) = refl
-    same (Frame-is.Refused x) = ap Frame-is.Refused (told_back x)
+    same (FrameIs.Frame p c) = refl
+    same (FrameIs.End c) = refl
+    same (FrameIs.Refused x) = ap FrameIs.Refused (told_back x)

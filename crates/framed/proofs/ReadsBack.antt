@@ -9,7 +9,7 @@ use Rattle.wire.specs.Answer.{gives}
 use Rattle.config.specs.Limits.{above}
 use Rattle.config.specs.declared.limit.Limit.{Limit}
 use Rattle.text.proofs.Layouts.{length-sized}
-use Rattle.text.specs.declared.Body.TheVariants as Body-of
+use Rattle.text.specs.declared.Body.TheVariants as BodyOf
 use Rattle.tree.proofs.Parts.{part_length}
 use Rattle.write.specs.Found.{Finds}
 use Rattle.write.proofs.Outputs.{short, is_short}
@@ -23,7 +23,7 @@ frame_back limit payload out at some below e =
     let f = full payload at (λ z. omega arith) in
     let h = is_short payload at out (rw (← f) at e) in
     let p = stands _ out at (short payload at h ∙ f) e in
-    let found = sized_found limit payload below p Body-of.Frame h in
+    let found = sized_found limit payload below p BodyOf.Frame h in
     let l = part_length p in
     record {
       place = found.place;

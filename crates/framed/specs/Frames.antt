@@ -5,7 +5,7 @@ use Rattle.wire.specs.Writes.{Output, puts, write_at}
 use Rattle.config.specs.declared.limit.Limit.{Limit}
 use Rattle.text.specs.Texts.{span, sized_at}
 use Rattle.text.specs.declared.Span.{Span}
-use Rattle.text.specs.declared.Body.TheVariants as Body-of
+use Rattle.text.specs.declared.Body.TheVariants as BodyOf
 use Rattle.write.specs.Outputs.{bytes_output}
 
 -- a frame, by where its payload stands, or that no frame follows
@@ -17,7 +17,7 @@ pub data Next : Type 0 where
 unfoldable pub frame_at : Limit → List ℕ → ℕ → Answer Next
 frame_at limit s at =
     cond (eqb at (length s)) (gives end at)
-    (mapped frame (sized_at Body-of.Frame limit s at))
+    (mapped frame (sized_at BodyOf.Frame limit s at))
 
 -- the payload in what was read: at the end an empty one
 abbrev pub payload_of : Answer Next → Answer Span

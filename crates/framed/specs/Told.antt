@@ -3,9 +3,9 @@ use Rattle.wire.specs.Answer.{Answer, gives}
 use Rattle.wire.specs.Refusals.{told_refusal}
 use Rattle.framed.specs.Frames.{Next, frame, end}
 use Rattle.framed.specs.declared.FrameRead.{FrameRead}
-use Rattle.framed.specs.declared.FrameRead.TheVariants as Frame-is
+use Rattle.framed.specs.declared.FrameRead.TheVariants as FrameIs
 
 abbrev pub told_frame : FrameRead → Answer Next
-told_frame (Frame-is.Frame p c) = gives (frame p) c.at
-told_frame (Frame-is.End c) = gives end c.at
-told_frame (Frame-is.Refused x) = told_refusal x
+told_frame (FrameIs.Frame p c) = gives (frame p) c.at
+told_frame (FrameIs.End c) = gives end c.at
+told_frame (FrameIs.Refused x) = told_refusal x

@@ -13,7 +13,7 @@ use Rattle.codes.specs.Codes.{type_of}
 use Rattle.wire.specs.Writes.{in_front}
 use Rattle.wire.proofs.Writes.{behind, unfronted}
 use Rattle.codes.specs.declared.Typed.{Typed}
-use Rattle.codes.specs.declared.Typed.TheVariants as Type-of
+use Rattle.codes.specs.declared.Typed.TheVariants as TypeOf
 use Rattle.number.specs.BigEndian.{bytes_of}
 use Rattle.number.proofs.Widths.{length-bytes_of}
 use Rattle.config.specs.declared.configuration.TConfiguration.{TConfiguration}
@@ -29,8 +29,8 @@ unknown_as sd s at d m x e a = subst (λ (n : Answer Unit). AfterEntry n x (x �
 module _ (c : TConfiguration) (sd : ℕ) (s : List ℕ) (at d : ℕ) where
   -- any two outcomes that the promise admits are equal
   host_only : (k : Typed) (x y : Outcome) → ByType c sd k s at d x → ByType c sd k s at d y → x ≡ y
-  host_only (Type-of.Known t) x y a b = skip_only binary binary_reads c s at d sd t x y a b
-  host_only Type-of.Unknown x y a b = go (skip_entry d sd s at) a b
+  host_only (TypeOf.Known t) x y a b = skip_only binary binary_reads c s at d sd t x y a b
+  host_only TypeOf.Unknown x y a b = go (skip_entry d sd s at) a b
     where
       go : (m : Answer Unit) → AfterEntry m x (x ≡ cut_off 5 at 0) → AfterEntry m y (y ≡ cut_off 5 at 0) → x ≡ y
       go (refused n p) a b = a ∙ sym b

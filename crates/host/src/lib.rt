@@ -129,14 +129,7 @@ fn answer(
 // record has fewer than 24 bytes. Refuses 2, 20, 5 for the type byte, with count 0; then of each value, as it is met,
 // 10, 12, 11 and what its header or bytes refuse: 1, 5, 6, 7, 9, with the values begun.
 // 03 00 00 00 02 05 06 at 0 as 0F, depth 2, ends at 7, count 3; depth 1 is refused: 10 at 5, count 2.
-#[unsafe(no_mangle)]
-pub extern "C" fn thrift_skip(
-    bytes: &[u8],
-    place: usize,
-    depth: usize,
-    type_byte: u8,
-    kept: &mut [u8],
-) -> u32
+pub fn thrift_skip(bytes: &[u8], place: usize, depth: usize, type_byte: u8, kept: &mut [u8]) -> u32
     ensures { HostedByDefault bytes.now place depth type_byte kept.old result kept.new }
 {
     answer(
@@ -153,8 +146,7 @@ pub extern "C" fn thrift_skip(
 // The same under the limits given, the greatest number for none, and inside as many open structs as are given.
 // Refuses 2, 20, 5 for the type byte, with count 0; then 10, 12, 11, 1, 5, 6, 7, 8, 9 in the same way.
 // 00 at 0 as 0C, depth 1, struct depth 1, ends at 1, count 1, where structs is 2; where it is 1: 11 at 0, count 1.
-#[unsafe(no_mangle)]
-pub extern "C" fn thrift_skip_within(
+pub fn thrift_skip_within(
     bytes: &[u8],
     place: usize,
     depth: usize,

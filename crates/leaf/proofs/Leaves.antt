@@ -9,19 +9,19 @@ use Rattle.wire.proofs.Unique.{settled}
 use Rattle.config.specs.declared.limit.Limit.{Limit}
 use Rattle.text.specs.Texts.{limited_at, bytes_at}
 use Rattle.text.proofs.Texts as texts
-use Rattle.text.specs.declared.Body.TheVariants as Body-of
+use Rattle.text.specs.declared.Body.TheVariants as BodyOf
 use Rattle.tree.specs.Answers.{Outcome, ended, cut_off}
 use Rattle.leaf.specs.Told.{told_walked}
 use Rattle.leaf.specs.declared.Walked.{Walked}
 use Rattle.leaf.specs.declared.Walked.TheVariants as Walk
 
 -- after its size, a text is so many bytes
-pub text_onward : (limit : Limit) (s : List ℕ) (at : ℕ) {size first : ℕ} → gives size first ≡ limited_at Body-of.Text limit s at → within s first size ≡ judged (bytes_at limit s at)
+pub text_onward : (limit : Limit) (s : List ℕ) (at : ℕ) {size first : ℕ} → gives size first ≡ limited_at BodyOf.Text limit s at → within s first size ≡ judged (bytes_at limit s at)
 text_onward limit s at {size} {first} e = go (within s first size) refl
   where
     go : (m : Answer Unit) → within s first size ≡ m → m ≡ judged (bytes_at limit s at)
-    go (gives u q) f = ap judged (texts.whole Body-of.Text limit s at e (sym f))
-    go (refused n p) f = ap judged (texts.cut Body-of.Text limit s at e (sym f))
+    go (gives u q) f = ap judged (texts.whole BodyOf.Text limit s at e (sym f))
+    go (refused n p) f = ap judged (texts.cut BodyOf.Text limit s at e (sym f))
 
 -- an answer from what it tells
 abbrev back : Outcome → Walked

@@ -9,7 +9,7 @@ use lib.ListN.{get_or}
 use Rattle.wire.specs.Answer.{Answer, gives, refused, refuse_if, and_then, within}
 use Rattle.codes.specs.Codes.{message_of}
 use Rattle.codes.specs.declared.TMessageType.{TMessageType}
-use Rattle.codes.specs.declared.Messaged.TheVariants as Message-of
+use Rattle.codes.specs.declared.Messaged.TheVariants as MessageOf
 use Rattle.wire.proofs.Answers.{first_fault, goes_on}
 use Rattle.number.specs.Reads.{byte_at, i32_at}
 use Rattle.config.specs.declared.limit.Limit.{Limit}
@@ -24,11 +24,11 @@ module _ (s : List ℕ) (at : ℕ) where
   no_message_byte e = first_fault _ e
 
   module _ {b next : ℕ} (e : gives b next ≡ byte_at s at) where
-    pub message_known : {t : TMessageType} → message_of b ≡ Message-of.Known t → gives t next ≡ message_type_at s at
+    pub message_known : {t : TMessageType} → message_of b ≡ MessageOf.Known t → gives t next ≡ message_type_at s at
     unfolding message_type_at and_then
     message_known h = rw (← e, h)
 
-    pub message_unknown : message_of b ≡ Message-of.Unknown → refused 4 at ≡ message_type_at s at
+    pub message_unknown : message_of b ≡ MessageOf.Unknown → refused 4 at ≡ message_type_at s at
     unfolding message_type_at and_then
     message_unknown h = rw (← e, h)
 

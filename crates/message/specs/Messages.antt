@@ -4,7 +4,7 @@ use Rattle.wire.specs.Answer.{Answer, gives, refused, refuse_if, and_then, mappe
 use Rattle.codes.specs.Codes.{message_of}
 use Rattle.codes.specs.declared.TMessageType.{TMessageType}
 use Rattle.codes.specs.declared.Messaged.{Messaged}
-use Rattle.codes.specs.declared.Messaged.TheVariants as Message-of
+use Rattle.codes.specs.declared.Messaged.TheVariants as MessageOf
 use Rattle.number.specs.Reads.{byte_at, i32_at}
 use Rattle.config.specs.declared.limit.Limit.{Limit}
 use Rattle.text.specs.Texts.{string_at}
@@ -13,8 +13,8 @@ use Rattle.message.specs.declared.TMessageIdentifier.{TMessageIdentifier}
 
 -- "type byte (1, 4)"
 abbrev pub known_message : ℕ → ℕ → Messaged → Answer TMessageType
-known_message at next (Message-of.Known t) = gives t next
-known_message at next Message-of.Unknown = refused 4 at
+known_message at next (MessageOf.Known t) = gives t next
+known_message at next MessageOf.Unknown = refused 4 at
 
 unfoldable pub message_type_at : List ℕ → ℕ → Answer TMessageType
 message_type_at s at = and_then (byte_at s at) λ b next. known_message at next (message_of b)

@@ -4,14 +4,14 @@ use Rattle.wire.specs.Refusals.{told_refusal}
 use Rattle.codes.specs.declared.TMessageType.{TMessageType}
 use Rattle.message.specs.declared.TMessageIdentifier.{TMessageIdentifier}
 use Rattle.message.specs.declared.MessageRead.{MessageRead}
-use Rattle.message.specs.declared.MessageRead.TheVariants as Message-is
+use Rattle.message.specs.declared.MessageRead.TheVariants as MessageIs
 use Rattle.message.specs.declared.MessageTypeRead.{MessageTypeRead}
-use Rattle.message.specs.declared.MessageTypeRead.TheVariants as MessageType-is
+use Rattle.message.specs.declared.MessageTypeRead.TheVariants as MessageTypeIs
 
 abbrev pub told_message : MessageRead → Answer TMessageIdentifier
-told_message (Message-is.Value v c) = gives v c.at
-told_message (Message-is.Refused x) = told_refusal x
+told_message (MessageIs.Value v c) = gives v c.at
+told_message (MessageIs.Refused x) = told_refusal x
 
 abbrev pub told_message_type : MessageTypeRead → Answer TMessageType
-told_message_type (MessageType-is.Value v c) = gives v c.at
-told_message_type (MessageType-is.Refused x) = told_refusal x
+told_message_type (MessageTypeIs.Value v c) = gives v c.at
+told_message_type (MessageTypeIs.Refused x) = told_refusal x

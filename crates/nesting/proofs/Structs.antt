@@ -12,7 +12,7 @@ use Rattle.config.specs.Limits.{reached}
 use Rattle.config.specs.declared.limit.Limit.{Limit}
 use Rattle.nesting.specs.Structs.{struct_begin_at, struct_end_at, told_depth}
 use Rattle.nesting.specs.declared.DepthRead.{DepthRead}
-use Rattle.nesting.specs.declared.DepthRead.TheVariants as Depth-is
+use Rattle.nesting.specs.declared.DepthRead.TheVariants as DepthIs
 
 module _ (limit : Limit) (depth : ℕ) (s : List ℕ) (at : ℕ) where
   pub begin_beyond : length s < at → refused 2 at ≡ struct_begin_at limit depth s at
@@ -57,8 +57,8 @@ module _ (depth : ℕ) (s : List ℕ) (at : ℕ) where
 
 pub depth_settled : {a b : DepthRead} {m : Answer ℕ} → told_depth a ≡ m → told_depth b ≡ m → a ≡ b
 unfolding back
-depth_settled = cursor_settled Depth-is.Value Depth-is.Refused told_depth same
+depth_settled = cursor_settled DepthIs.Value DepthIs.Refused told_depth same
   where
-    same : (a : DepthRead) → back Depth-is.Value Depth-is.Refused (told_depth a) ≡ a
-    same (Depth-is.Value v c) = refl
-    same (Depth-is.Refused x) = ap Depth-is.Refused (told_back x)
+    same : (a : DepthRead) → back DepthIs.Value DepthIs.Refused (told_depth a) ≡ a
+    same (DepthIs.Value v c) = refl
+    same (DepthIs.Refused x) = ap DepthIs.Refused (told_back x)

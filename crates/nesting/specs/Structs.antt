@@ -5,7 +5,7 @@ use Rattle.wire.specs.Refusals.{told_refusal}
 use Rattle.config.specs.Limits.{reached}
 use Rattle.config.specs.declared.limit.Limit.{Limit}
 use Rattle.nesting.specs.declared.DepthRead.{DepthRead}
-use Rattle.nesting.specs.declared.DepthRead.TheVariants as Depth-is
+use Rattle.nesting.specs.declared.DepthRead.TheVariants as DepthIs
 
 -- "2, 20 (where it takes a skip depth or a struct depth)": here a struct depth
 abbrev pub depth_entry : {A : Type 0} → ℕ → List ℕ → ℕ → Answer A → Answer A
@@ -28,5 +28,5 @@ struct_end_at depth s at =
 
 -- what the answer tells
 abbrev pub told_depth : DepthRead → Answer ℕ
-told_depth (Depth-is.Value v c) = gives v c.at
-told_depth (Depth-is.Refused x) = told_refusal x
+told_depth (DepthIs.Value v c) = gives v c.at
+told_depth (DepthIs.Refused x) = told_refusal x

@@ -2,7 +2,7 @@
 use Rattle.std.specs.Prelude.{ℕ, List, [], ◌∷◌, get_or}
 use Rattle.codes.specs.declared.TType.TheVariants as T
 use Rattle.codes.specs.declared.Typed.{Typed}
-use Rattle.codes.specs.declared.Typed.TheVariants as Type-of
+use Rattle.codes.specs.declared.Typed.TheVariants as TypeOf
 use Rattle.probe_numbers.specs.declared.Plain.TheVariants as P
 use Rattle.probe_numbers.specs.declared.Bounded.TheVariants as B
 use Rattle.probe_numbers.specs.declared.ReadStep.{ReadStep}
@@ -84,22 +84,22 @@ write_step_of b = get_or writes b Write.Unknown
 -- the types, by their index and not by their byte
 abbrev pub kinds : List Typed
 kinds =
-    Type-of.Known T.Stop  -- 0
-    ∷ Type-of.Known T.Void  -- 1
-    ∷ Type-of.Known T.Bool  -- 2
-    ∷ Type-of.Known T.I08  -- 3
-    ∷ Type-of.Known T.Double  -- 4
-    ∷ Type-of.Known T.I16  -- 5
-    ∷ Type-of.Known T.I32  -- 6
-    ∷ Type-of.Known T.I64  -- 7
-    ∷ Type-of.Known T.String  -- 8
-    ∷ Type-of.Known T.Utf7  -- 9
-    ∷ Type-of.Known T.Struct  -- 10
-    ∷ Type-of.Known T.Map  -- 11
-    ∷ Type-of.Known T.Set  -- 12
-    ∷ Type-of.Known T.List  -- 13
-    ∷ Type-of.Known T.Uuid  -- 14
+    TypeOf.Known T.Stop  -- 0
+    ∷ TypeOf.Known T.Void  -- 1
+    ∷ TypeOf.Known T.Bool  -- 2
+    ∷ TypeOf.Known T.I08  -- 3
+    ∷ TypeOf.Known T.Double  -- 4
+    ∷ TypeOf.Known T.I16  -- 5
+    ∷ TypeOf.Known T.I32  -- 6
+    ∷ TypeOf.Known T.I64  -- 7
+    ∷ TypeOf.Known T.String  -- 8
+    ∷ TypeOf.Known T.Utf7  -- 9
+    ∷ TypeOf.Known T.Struct  -- 10
+    ∷ TypeOf.Known T.Map  -- 11
+    ∷ TypeOf.Known T.Set  -- 12
+    ∷ TypeOf.Known T.List  -- 13
+    ∷ TypeOf.Known T.Uuid  -- 14
     ∷ []
 
 abbrev pub kind_of : ℕ → Typed
-kind_of b = get_or kinds b Type-of.Unknown
+kind_of b = get_or kinds b TypeOf.Unknown

@@ -4,7 +4,7 @@ use mathlib.Core.Path.{◌≡◌, refl, sym, ap, subst, ◌∙◌}
 use mathlib.Core.List.{List}
 use Rattle.codes.specs.declared.TType.{TType}
 use Rattle.codes.specs.declared.Typed.{Typed}
-use Rattle.codes.specs.declared.Typed.TheVariants as Type-of
+use Rattle.codes.specs.declared.Typed.TheVariants as TypeOf
 use Rattle.tree.proofs.Only.{skip_only}
 use Rattle.binary.specs.Binary.{binary}
 use Rattle.binary.proofs.Binary.{binary_reads}
@@ -26,21 +26,21 @@ handed sd (Skip.Passed c d n) h = rw h
 handed sd (Skip.Refused x n) h = refl
 
 module _ (s : List ℕ) (c : Reading) where
-  pub skip_step : {k : Typed} {t : TType} (r : Skipped) {w : Row} → k ≡ Type-of.Known t
+  pub skip_step : {k : Typed} {t : TType} (r : Skipped) {w : Row} → k ≡ TypeOf.Known t
       → SkipSays c.limits s c.place c.depth c.struct_depth t r → w ≡ skip_row (depth_in r) (told_skipped r) → SkipStep k s c (To.Set w)
   skip_step r {w} e says f =
       subst (λ (k : Typed). SkipStep k s c (To.Set w)) (sym e)
       (record { outcome = told_skipped r; answers = says.answers; filled_by = ap To.Set (f ∙ handed _ r says.hands) })
 
-  pub no_kind : {k : Typed} → k ≡ Type-of.Unknown → SkipStep k s c To.Unknown
+  pub no_kind : {k : Typed} → k ≡ TypeOf.Unknown → SkipStep k s c To.Unknown
   no_kind e = subst (λ (k : Typed). SkipStep k s c To.Unknown) (sym e) refl
 
 skip_one : (k : Typed) (s : List ℕ) (c : Reading) (x y : Stepped) → SkipStep k s c x → SkipStep k s c y → x ≡ y
-skip_one (Type-of.Known t) s c x y p q =
+skip_one (TypeOf.Known t) s c x y p q =
     p.filled_by
     ∙ ap (λ o. To.Set (skip_row c.struct_depth o)) (skip_only binary binary_reads c.limits s c.place c.depth c.struct_depth t p.outcome q.outcome p.answers q.answers)
     ∙ sym q.filled_by
-skip_one Type-of.Unknown s c x y p q = p ∙ sym q
+skip_one TypeOf.Unknown s c x y p q = p ∙ sym q
 
 -- any two things that the promise admits are equal
 pub read_step_settled : (step : ReadStep) (s : List ℕ) (c : Reading) (x y : Stepped) → ReadSays step s c x → ReadSays step s c y → x ≡ y

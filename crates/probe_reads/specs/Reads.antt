@@ -3,7 +3,7 @@ use Rattle.std.specs.Prelude.{ℕ, ◌≡◌, not, List, eqb}
 use Rattle.std.specs.Int.{w8, w16, w32, w64}
 use Rattle.wire.specs.Answer.{stay_at}
 use Rattle.codes.specs.declared.Typed.{Typed}
-use Rattle.codes.specs.declared.Typed.TheVariants as Type-of
+use Rattle.codes.specs.declared.Typed.TheVariants as TypeOf
 use Rattle.codes.specs.declared.TType.{TType}
 use Rattle.config.specs.Limits.{built_from}
 use Rattle.config.specs.declared.configuration.TConfiguration.{TConfiguration}
@@ -65,8 +65,8 @@ bounded_row B.Frame s c = row_by frame_row (frame_at c.limits.max_frame_size s c
 bounded_row B.Limits s c = row_by none_row (built_from c.limits)
 
 abbrev pub scalar_step : Typed → List ℕ → ℕ → Stepped
-scalar_step (Type-of.Known t) s at = To.Set (row_by (scalar_row t) (scalar_at t s at))
-scalar_step Type-of.Unknown s at = To.Unknown
+scalar_step (TypeOf.Known t) s at = To.Set (row_by (scalar_row t) (scalar_at t s at))
+scalar_step TypeOf.Unknown s at = To.Unknown
 
 -- a record set by an outcome that the skip answers
 pub record SkipSet (t : TType) (s : List ℕ) (c : Reading) (x : Stepped) : Type 0 where
@@ -75,8 +75,8 @@ pub record SkipSet (t : TType) (s : List ℕ) (c : Reading) (x : Stepped) : Type
   pub filled_by : x ≡ To.Set (skip_row c.struct_depth outcome)
 
 abbrev pub SkipStep : Typed → List ℕ → Reading → Stepped → Type 0
-SkipStep (Type-of.Known t) s c x = SkipSet t s c x
-SkipStep Type-of.Unknown s c x = x ≡ To.Unknown
+SkipStep (TypeOf.Known t) s c x = SkipSet t s c x
+SkipStep TypeOf.Unknown s c x = x ≡ To.Unknown
 
 abbrev pub ReadSays : ReadStep → List ℕ → Reading → Stepped → Type 0
 ReadSays (Step.Plain p) s c x = x ≡ To.Set (plain_row p s c.place)

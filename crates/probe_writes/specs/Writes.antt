@@ -9,9 +9,9 @@ use Rattle.codes.specs.Codes.{message_of}
 use Rattle.wire.specs.Writes.{left}
 use Rattle.codes.specs.declared.TType.{TType}
 use Rattle.codes.specs.declared.Typed.{Typed}
-use Rattle.codes.specs.declared.Typed.TheVariants as Type-of
+use Rattle.codes.specs.declared.Typed.TheVariants as TypeOf
 use Rattle.codes.specs.declared.Messaged.{Messaged}
-use Rattle.codes.specs.declared.Messaged.TheVariants as Message-of
+use Rattle.codes.specs.declared.Messaged.TheVariants as MessageOf
 use Rattle.nesting.specs.Structs.{struct_begin_at, struct_end_at}
 use Rattle.write.specs.Outputs.{byte_write, bool_write, i8_write, i16_write, i32_write, i64_write, double_write, uuid_write, bytes_write, string_write}
 use Rattle.write_headers.specs.Outputs.{field_write, stop_write, list_write, map_write}
@@ -19,7 +19,7 @@ use Rattle.write_message.specs.Outputs.{message_write}
 use Rattle.write_headers.specs.declared.field.FieldId.{FieldId}
 use Rattle.write_headers.specs.declared.field.FieldId.TheVariants as Id
 use Rattle.write_headers.specs.declared.container.MapType.{MapType}
-use Rattle.write_headers.specs.declared.container.MapType.TheVariants as Of-map
+use Rattle.write_headers.specs.declared.container.MapType.TheVariants as OfMap
 use Rattle.framed.specs.Frames.{frame_write}
 use Rattle.probe_rows.specs.declared.Row.{Row}
 use Rattle.probe_rows.specs.declared.Stepped.{Stepped}
@@ -70,7 +70,7 @@ abbrev pub field_id_of : ℕ → ℕ → FieldId
 field_id_of absent n = cond (eqb (absent % 2) 1) Id.Absent (Id.Of (low16 n))
 
 abbrev pub map_type_of : ℕ → TType → MapType
-map_type_of absent t = cond (eqb (absent % 2) 1) Of-map.Absent (Of-map.Of t)
+map_type_of absent t = cond (eqb (absent % 2) 1) OfMap.Absent (OfMap.Of t)
 
 abbrev pub headed_write : Headed → TType → Writing → List ℕ → ℕ → Answer (List ℕ)
 headed_write H.Field t c out at = field_write t (field_id_of c.absent c.number) out at
@@ -112,8 +112,8 @@ pub record WriteSays (d : Does) (x : Stepped) (new old : List ℕ) : Type 0 wher
 
 -- a type index, or a message type's byte, must be known
 abbrev pub if_type : Typed → (TType → Does) → Does
-if_type (Type-of.Known t) does = does t
-if_type Type-of.Unknown does = nothing
+if_type (TypeOf.Known t) does = does t
+if_type TypeOf.Unknown does = nothing
 
 abbrev pub headed_does : Headed → Writing → List ℕ → ℕ → Does
 headed_does h c out at = if_type (kind_of c.kind) λ t. writes (headed_write h t c out at)
@@ -125,8 +125,8 @@ map_does c out at =
     writes (map_asked k v c out at)
 
 abbrev pub message_by : Messaged → Writing → List ℕ → List ℕ → ℕ → Does
-message_by (Message-of.Known t) c name out at = writes (message_write c.strict name t (low32 c.number) out at)
-message_by Message-of.Unknown c name out at = nothing
+message_by (MessageOf.Known t) c name out at = writes (message_write c.strict name t (low32 c.number) out at)
+message_by MessageOf.Unknown c name out at = nothing
 
 abbrev pub message_does : Writing → List ℕ → List ℕ → ℕ → Does
 message_does c name out at = message_by (message_of c.kind) c name out at

@@ -9,7 +9,7 @@ use lib.IntN.{ℤ, pos}
 use Rattle.wire.specs.Answer.{gives, refused, refuse_if, and_then, mapped}
 use Rattle.codes.specs.Codes.{type_of, is_stop, least_size}
 use Rattle.codes.specs.declared.TType.{TType}
-use Rattle.codes.specs.declared.Typed.TheVariants as Type-of
+use Rattle.codes.specs.declared.Typed.TheVariants as TypeOf
 use Rattle.wire.proofs.Answers.{first_fault, passed, went}
 use Rattle.number.specs.Reads.{byte_at, i16_at}
 use Rattle.config.specs.Limits.{above}
@@ -25,11 +25,11 @@ module _ (s : List ℕ) (at : ℕ) where
   no_type_byte e = first_fault _ e
 
   module _ {b next : ℕ} (e : gives b next ≡ byte_at s at) where
-    pub type_known : {t : TType} → type_of b ≡ Type-of.Known t → gives t next ≡ type_at s at
+    pub type_known : {t : TType} → type_of b ≡ TypeOf.Known t → gives t next ≡ type_at s at
     unfolding type_at and_then
     type_known h = rw (← e, h)
 
-    pub type_unknown : type_of b ≡ Type-of.Unknown → refused 5 at ≡ type_at s at
+    pub type_unknown : type_of b ≡ TypeOf.Unknown → refused 5 at ≡ type_at s at
     unfolding type_at and_then
     type_unknown h = rw (← e, h)
 

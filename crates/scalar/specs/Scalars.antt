@@ -8,7 +8,7 @@ use Rattle.number.specs.Reads.{bool_at, i8_at, i16_at, i32_at, i64_at, double_at
 use Rattle.scalar.specs.declared.Scalar.{Scalar}
 use Rattle.scalar.specs.declared.Scalar.TheVariants as S
 use Rattle.scalar.specs.declared.ScalarRead.{ScalarRead}
-use Rattle.scalar.specs.declared.ScalarRead.TheVariants as Scalar-is
+use Rattle.scalar.specs.declared.ScalarRead.TheVariants as ScalarIs
 
 -- a type that is no scalar kind
 unfoldable pub wrong_at : List ℕ → ℕ → Answer Scalar
@@ -34,5 +34,5 @@ scalar_at T.Uuid s at = wrong_at s at
 
 -- what the answer tells
 abbrev pub told_scalar : ScalarRead → Answer Scalar
-told_scalar (Scalar-is.Value v c) = gives v c.at
-told_scalar (Scalar-is.Refused x) = told_refusal x
+told_scalar (ScalarIs.Value v c) = gives v c.at
+told_scalar (ScalarIs.Refused x) = told_refusal x

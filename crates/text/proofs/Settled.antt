@@ -7,22 +7,22 @@ use Rattle.wire.proofs.Unique.{back, cursor_settled}
 use Rattle.text.specs.Told.{told_size, told_text}
 use Rattle.text.specs.declared.Span.{Span}
 use Rattle.text.specs.declared.SizeRead.{SizeRead}
-use Rattle.text.specs.declared.SizeRead.TheVariants as Size-is
+use Rattle.text.specs.declared.SizeRead.TheVariants as SizeIs
 use Rattle.text.specs.declared.TextRead.{TextRead}
-use Rattle.text.specs.declared.TextRead.TheVariants as Text-is
+use Rattle.text.specs.declared.TextRead.TheVariants as TextIs
 
 pub size_settled : {a b : SizeRead} {m : Answer ℕ} → told_size a ≡ m → told_size b ≡ m → a ≡ b
 unfolding back
-size_settled = cursor_settled Size-is.Value Size-is.Refused told_size same
+size_settled = cursor_settled SizeIs.Value SizeIs.Refused told_size same
   where
-    same : (a : SizeRead) → back Size-is.Value Size-is.Refused (told_size a) ≡ a
-    same (Size-is.Value v c) = refl
-    same (Size-is.Refused x) = ap Size-is.Refused (told_back x)
+    same : (a : SizeRead) → back SizeIs.Value SizeIs.Refused (told_size a) ≡ a
+    same (SizeIs.Value v c) = refl
+    same (SizeIs.Refused x) = ap SizeIs.Refused (told_back x)
 
 pub text_settled : {a b : TextRead} {m : Answer Span} → told_text a ≡ m → told_text b ≡ m → a ≡ b
 unfolding back
-text_settled = cursor_settled Text-is.Value Text-is.Refused told_text same
+text_settled = cursor_settled TextIs.Value TextIs.Refused told_text same
   where
-    same : (a : TextRead) → back Text-is.Value Text-is.Refused (told_text a) ≡ a
-    same (Text-is.Value v c) = refl
-    same (Text-is.Refused x) = ap Text-is.Refused (told_back x)
+    same : (a : TextRead) → back TextIs.Value TextIs.Refused (told_text a) ≡ a
+    same (TextIs.Value v c) = refl
+    same (TextIs.Refused x) = ap TextIs.Refused (told_back x)

@@ -21,7 +21,7 @@ use Rattle.wire.proofs.Within.{inside}
 use Rattle.utf8.specs.UpTo.{up_to}
 use Rattle.text.specs.declared.Span.{Span}
 use Rattle.text.specs.declared.Body.{Body}
-use Rattle.text.specs.declared.Body.TheVariants as Body-of
+use Rattle.text.specs.declared.Body.TheVariants as BodyOf
 use Rattle.text.specs.Texts.{span, size_at, over_number, limited_at, sized_at, part_marked, part_found, bytes_at, string_at, uuid_at}
 
 -- a 32-bit number that is not negative is below 2 to the 31st
@@ -146,7 +146,7 @@ module _ (limit : Limit) (s : List ℕ) (at : ℕ) where
 
   module _ {p : Span} {next : ℕ} (e : gives p next ≡ bytes_at limit s at) where
     pub text_taken : take (p.end - p.start) (drop p.start s) ≡ part_marked s p
-    text_taken = part_inside s p (sized_lies Body-of.Text limit s at e).inside_them
+    text_taken = part_inside s p (sized_lies BodyOf.Text limit s at e).inside_them
 
     pub not_utf8_lem : up_to (part_marked s p) < length (part_marked s p) → refused 13 p.start ≡ string_at limit s at
     unfolding string_at and_then refuse_if

@@ -9,7 +9,7 @@ use Rattle.config.specs.declared.limit.Limit.{Limit}
 use Rattle.utf8.specs.UpTo.{not_utf8}
 use Rattle.text.specs.declared.Span.{Span}
 use Rattle.text.specs.declared.Body.{Body}
-use Rattle.text.specs.declared.Body.TheVariants as Body-of
+use Rattle.text.specs.declared.Body.TheVariants as BodyOf
 
 abbrev pub span : ℕ → ℕ → Span
 span a e = record { start = a; end = e }
@@ -26,8 +26,8 @@ size_at s at =
 
 -- what a size above its limit is refused by: a text's, a frame's
 abbrev pub over_number : Body → ℕ
-over_number Body-of.Text = 7
-over_number Body-of.Frame = 18
+over_number BodyOf.Text = 7
+over_number BodyOf.Frame = 18
 
 -- a size within its limit, for what it counts the bytes of
 unfoldable pub limited_at : Body → Limit → List ℕ → ℕ → Answer ℕ
@@ -53,7 +53,7 @@ part_found s (refused n p) = []
 
 -- bytes: no more than that
 abbrev pub bytes_at : Limit → List ℕ → ℕ → Answer Span
-bytes_at = sized_at Body-of.Text
+bytes_at = sized_at BodyOf.Text
 
 -- names and strings: then 13, at the text's first byte, where it is not UTF-8 to its end
 unfoldable pub string_at : Limit → List ℕ → ℕ → Answer Span

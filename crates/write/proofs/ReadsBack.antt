@@ -26,7 +26,7 @@ use Rattle.config.specs.declared.limit.Limit.{Limit}
 use Rattle.text.specs.Texts.{span, sized_layout, part_marked, sized_at, bytes_at, string_at, uuid_at}
 use Rattle.text.proofs.Texts as texts
 use Rattle.text.specs.declared.Body.{Body}
-use Rattle.text.specs.declared.Body.TheVariants as Body-of
+use Rattle.text.specs.declared.Body.TheVariants as BodyOf
 use Rattle.tree.specs.Part.{Part}
 use Rattle.tree.proofs.Parts.{part_length, part_split}
 use Rattle.tree.proofs.Reading.{part_within, number_reads}
@@ -74,7 +74,7 @@ module _ {s : List ℕ} {at e : ℕ} (limit : Limit) (b : List ℕ) (below : abo
 
   pub string_found : Name b → Found s b (string_at limit s at) e
   string_found n =
-      let t = sized_found Body-of.Text n.short in
+      let t = sized_found BodyOf.Text n.short in
       record { place = t.place; gave = texts.string limit s at t.gave (rw t.bytes n.utf8); bytes = t.bytes }
 
 module _ (out : List ℕ) (at : ℕ) {new : List ℕ} {next : ℕ} where
@@ -129,7 +129,7 @@ module _ (out : List ℕ) (at : ℕ) {new : List ℕ} {next : ℕ} where
     pub bytes_back : gives new next ≡ bytes_write b out at → Found new b (bytes_at limit new at) next
     bytes_back e =
         let h = is_short b at out e in
-        sized_found limit b below (stands _ out at (short b at h) e) Body-of.Text h
+        sized_found limit b below (stands _ out at (short b at h) e) BodyOf.Text h
 
     pub string_back : gives new next ≡ string_write b out at → Found new b (string_at limit new at) next
     string_back e =

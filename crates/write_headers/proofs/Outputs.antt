@@ -21,7 +21,7 @@ use Rattle.write_headers.specs.Outputs.{field_output, map_output}
 use Rattle.write_headers.specs.declared.field.FieldId.{FieldId}
 use Rattle.write_headers.specs.declared.field.FieldId.TheVariants as Id
 use Rattle.write_headers.specs.declared.container.MapType.{MapType}
-use Rattle.write_headers.specs.declared.container.MapType.TheVariants as Of-map
+use Rattle.write_headers.specs.declared.container.MapType.TheVariants as OfMap
 
 module _ (t : TType) (at : ℕ) {i : FieldId} where
   pub with_id : {id : ℤ} → i ≡ Id.Of id → puts (field_layout t (bytes_of 2 (of_z w16 id))) ≡ field_output t i at
@@ -38,15 +38,15 @@ module _ (t : TType) (at : ℕ) {i : FieldId} where
     no_id h = rw (e, h)
 
 module _ (size : ℤ) (at : ℕ) {k : MapType} (v : MapType) where
-  pub no_key : k ≡ Of-map.Absent → fails 17 at ≡ map_output k v size at
+  pub no_key : k ≡ OfMap.Absent → fails 17 at ≡ map_output k v size at
   unfolding map_output
   no_key e = rw e
 
-  pub no_value : {kt : TType} → k ≡ Of-map.Of kt → v ≡ Of-map.Absent → fails 17 at ≡ map_output k v size at
+  pub no_value : {kt : TType} → k ≡ OfMap.Of kt → v ≡ OfMap.Absent → fails 17 at ≡ map_output k v size at
   unfolding map_output
   no_value e f = rw (e, f)
 
-  pub both_types : {kt vt : TType} → k ≡ Of-map.Of kt → v ≡ Of-map.Of vt → puts (map_layout kt vt (of_z w32 size)) ≡ map_output k v size at
+  pub both_types : {kt vt : TType} → k ≡ OfMap.Of kt → v ≡ OfMap.Of vt → puts (map_layout kt vt (of_z w32 size)) ≡ map_output k v size at
   unfolding map_output
   both_types e f = rw (e, f)
 

@@ -23,7 +23,7 @@ use Rattle.binary.specs.Layouts.{Readable}
 use Rattle.binary.proofs.Reading.{field_reads, stop_reads, list_reads, map_reads}
 use Rattle.write_headers.specs.Outputs.{field_write, stop_write, list_write, map_write}
 use Rattle.write_headers.specs.declared.field.FieldId.TheVariants as Id
-use Rattle.write_headers.specs.declared.container.MapType.TheVariants as Of-map
+use Rattle.write_headers.specs.declared.container.MapType.TheVariants as OfMap
 use Rattle.write_headers.proofs.Outputs.{with_id, stop_alone, both_types}
 
 -- a type's byte is that of the type it is read as
@@ -59,8 +59,8 @@ module _ (out : List ℕ) (at : ℕ) {new : List ℕ} {next : ℕ} where
   set_back c t n f e = headers.a_set c new at (list_back c t n f e)
 
   pub map_back : (c : TConfiguration) (k v : TType) (n : ℕ) → SizeFits c (least_size (as_read k) + least_size (as_read v)) n
-      → gives new next ≡ map_write (Of-map.Of k) (Of-map.Of v) (pos n) out at
+      → gives new next ≡ map_write (OfMap.Of k) (OfMap.Of v) (pos n) out at
       → gives (map (as_read k) (as_read v) n) next ≡ map_at c new at
   map_back c k v n f e =
-      let p = stands _ out at (both_types (pos n) at (Of-map.Of v) refl refl) e in
+      let p = stands _ out at (both_types (pos n) at (OfMap.Of v) refl refl) e in
       map_reads c (as_read k) (as_read v) n (reads_as k) (reads_as v) f (rw (same_byte k, same_byte v) p)

@@ -12,7 +12,7 @@ use Rattle.read.specs.Layouts.{field_layout, list_layout, map_layout}
 use Rattle.write_headers.specs.declared.field.FieldId.{FieldId}
 use Rattle.write_headers.specs.declared.field.FieldId.TheVariants as Id
 use Rattle.write_headers.specs.declared.container.MapType.{MapType}
-use Rattle.write_headers.specs.declared.container.MapType.TheVariants as Of-map
+use Rattle.write_headers.specs.declared.container.MapType.TheVariants as OfMap
 
 -- "an absent id is 17 unless the type is Stop. A Stop with an id writes three bytes, as in the Rust; a Stop without one … one"
 unfoldable pub field_output : TType → FieldId → ℕ → Output
@@ -21,9 +21,9 @@ field_output t Id.Absent at = fail_if (not (is_stop t)) 17 at (puts (type_byte t
 
 -- "field id or map type missing"
 unfoldable pub map_output : MapType → MapType → ℤ → ℕ → Output
-map_output Of-map.Absent value size at = fails 17 at
-map_output (Of-map.Of k) Of-map.Absent size at = fails 17 at
-map_output (Of-map.Of k) (Of-map.Of v) size at = puts (map_layout k v (of_z w32 size))
+map_output OfMap.Absent value size at = fails 17 at
+map_output (OfMap.Of k) OfMap.Absent size at = fails 17 at
+map_output (OfMap.Of k) (OfMap.Of v) size at = puts (map_layout k v (of_z w32 size))
 
 -- What each writer of a header comes to, in a buffer at a place
 abbrev pub field_write : TType → FieldId → List ℕ → ℕ → Answer (List ℕ)

@@ -10,7 +10,7 @@ pub bounds-bytes-at : goal.bounds-bytes-at
 bounds-bytes-at c = omega (arith, fits 1 (λ (n : ℕ). n) _ _ c.in-To.is c.past.ensures)
 
 pub returns-in-To : goal.returns-in-To
-returns-in-To c =     read 1 (λ (n : ℕ). n) _ _ c.in-To.is c.past.ensures refl
+returns-in-To c = read 1 (λ (n : ℕ). n) _ _ c.in-To.is c.past.ensures refl
 
 pub returns-in-Refused : goal.returns-in-Refused
 returns-in-Refused c = refuses 1 (λ (n : ℕ). n) _ _ c.in-Refused.is c.past.ensures

@@ -1,0 +1,6 @@
+-- Assumes nothing.
+use borrow.Author.Rules.{rules}
+use Rattle.probe_reads.proofs.by_number.Goals as goal
+
+pub returns : goal.returns
+returns c = rw c.read_step.ensures at c.by_step.ensures

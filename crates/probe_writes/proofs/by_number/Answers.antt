@@ -1,0 +1,6 @@
+-- Assumes nothing.
+use borrow.Author.Rules.{rules}
+use Rattle.probe_writes.proofs.by_number.Goals as goal
+
+pub returns : goal.returns
+returns c = rw c.write_step.ensures at c.by_step.ensures

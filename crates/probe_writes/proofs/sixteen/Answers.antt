@@ -1,0 +1,7 @@
+-- Assumes nothing.
+use borrow.Author.Rules.{rules}
+use Rattle.probe_writes.proofs.Steps.{one_by_one}
+use Rattle.probe_writes.proofs.sixteen.Goals as goal
+
+pub returns : goal.returns
+returns c = let a = c.args in one_by_one a.text.now c.requires
