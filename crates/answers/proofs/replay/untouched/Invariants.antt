@@ -1,0 +1,10 @@
+use Prim.Native.Nat.{◌-◌}
+use mathlib.Core.Path.{◌≡◌}
+use lib.ListN.{length}
+use Rattle.answers.proofs.replay.untouched.Given as goal
+
+abbrev pub invariant-loop-i : goal.invariant-loop-i
+invariant-loop-i l = length l.out ≡ length l.initial.out
+
+abbrev pub decreases-loop-i : goal.decreases-loop-i
+decreases-loop-i l = 64 - l.i
