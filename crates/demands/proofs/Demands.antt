@@ -34,7 +34,7 @@ use Rattle.leaf.proofs.Leaves.{walked_settled}
 use Rattle.skip.proofs.Counted.{accepted_count, refused_count}
 use Rattle.skip_value.proofs.Settled.{value_settled}
 use Rattle.skip.proofs.Exactly.{accepts_exactly, refuses_exactly, skip_settled}
-use Rattle.skip.proofs.MoreRoom as more_Room
+use Rattle.skip.proofs.MoreRoom as more_room
 use Rattle.write.proofs.ReadsBack as values
 use Rattle.write_headers.proofs.ReadsBack as headers
 use Rattle.write_message.proofs.ReadsBack as messages
@@ -169,8 +169,8 @@ demands =
       stays =
           λ old new room s x at d e sd t inside more top a b first second.
           record {
-            accept_stays = more_Room.accept_stays old new room s x at d e sd t inside more top a b first second;
-            refusal_stays = more_Room.refusal_stays old new room s x at d e sd t inside more top a b first second;
+            accept_stays = more_room.accept_stays old new room s x at d e sd t inside more top a b first second;
+            refusal_stays = more_room.refusal_stays old new room s x at d e sd t inside more top a b first second;
           };
       counts = λ c s at d sd t r says. record { accepted = accepted_count c s at d sd t r says; refused_at = refused_count c s at d sd t r says };
       one_answer = one_answer;

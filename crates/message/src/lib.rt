@@ -118,6 +118,7 @@ fn bad_version(at: usize) -> MessageRead
 // 1, 4 for the type and 1. The top bit of the first byte tells the layouts apart; byte 2 of a version is not looked at.
 // 80 01 00 01 00 00 00 02 61 62 00 00 00 07 at 0 gives 8 to 10, Call, 7 and ends at 14; without a version,
 // 00 00 00 02 61 62 01 00 00 00 07 at 0 gives 4 to 6, Call, 7 and ends at 11, but in strict mode is refused: 3 at 0.
+#[tactic(auto, using(crate::proofs::Messages::not_strict, crate::proofs::Messages::older))]
 pub fn read_message_begin(
     bytes: &[u8],
     cursor: Cursor,

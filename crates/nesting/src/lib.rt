@@ -23,6 +23,7 @@ fn refused(kind: Kind, place: usize) -> DepthRead
 
 // The struct depth one up, where a struct begins; no byte is passed. Refuses 2, 20, 11.
 // 00 at 0, depth 63, default limits, gives 64 and stays at 0; depth 64 is refused: 11 at 0.
+#[tactic(auto, using(crate::proofs::Structs::begin_last))]
 pub fn read_struct_begin(
     bytes: &[u8],
     cursor: Cursor,

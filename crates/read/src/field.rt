@@ -49,6 +49,7 @@ pub fn read_type(bytes: &[u8], cursor: Cursor) -> TypeRead
 
 // A field's header: type and id, or a Stop, which is one byte with id 0. Refuses 2, 1, 5, then 1 for the id.
 // 08 00 01 at 0 gives I32, id 1, and ends at 3; 08 00 at 0 is refused: 1 at 1.
+#[tactic(auto, using(crate::proofs::Headers::stop, crate::proofs::Headers::with_id, crate::proofs::Headers::no_id))]
 pub fn read_field_begin(bytes: &[u8], cursor: Cursor) -> FieldRead
     ensures { told_field result ≡ field_at bytes.now cursor.at }
 {

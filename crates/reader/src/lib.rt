@@ -20,7 +20,7 @@ pub struct Reader<'a> {
     pub at: usize,
 }
 
-// The work, on a slice and a place: the borrow checker covers these, and not those over the record.
+// The work, on a slice and a place.
 fn field_at(payload: &[u8], at: usize) -> FieldRead
     ensures { told_field result ≡ field_at payload.now at }
 {

@@ -1,2 +1,3 @@
+pub mod Deep
 pub mod Settled
 pub mod Sizes

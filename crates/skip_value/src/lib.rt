@@ -23,6 +23,7 @@ use wire::refusal::Kind;
 // 2, 20, 11, 1, 5, 6, 7, 8, 9, with the values begun.
 // 08 00 01 00 00 00 09 00 at 0 as Struct, depth 2, ends at 8, count 2; at 9 it is refused: 2 at 9, count 1.
 #[cycle(skip_list_skip_map_skip_struct_skip_value)]
+#[tactic(auto, using(crate::proofs::Deep::no_depth))]
 pub fn skip_value(
     bytes: &[u8],
     cursor: Cursor,

@@ -49,6 +49,7 @@ fn above_limit(body: Body) -> Kind
 
 // A 32-bit size at the cursor, which must not be negative. Refuses 2, 1, 6.
 // 00 00 00 02 at 0 gives 2 and ends at 4; FF FF FF FF at 0 is refused: 6 at 0.
+#[tactic(auto, using(crate::proofs::Texts::negative, crate::proofs::Texts::size))]
 pub fn read_size(bytes: &[u8], cursor: Cursor) -> SizeRead
     ensures { told_size result ≡ size_at bytes.now cursor.at }
 {

@@ -6,10 +6,10 @@ use mathlib.Core.List.{List, []}
 use borrow.Author.Tests.{lt-ltb, le-ltb, ltb-false}
 use lib.Dec.{ltb}
 use lib.ListN.{length}
-use Rattle.wire.specs.Answer.{Answer, gives, refused, refuse_if}
-use Rattle.wire.specs.Writes.{puts, fails, fail_if, unless_fails, write_at}
+use Rattle.wire.specs.Answer.{Answer, gives, refused, refuse_if, judged}
+use Rattle.wire.specs.Writes.{puts, fails, fail_if, unless_fails, write_at, left}
 use Rattle.wire.proofs.Answers.{passed}
-use Rattle.wire.proofs.Writes.{unfailed}
+use Rattle.wire.proofs.Writes.{unfailed, write_fault}
 use Rattle.utf8.specs.UpTo.{up_to}
 use Rattle.text.specs.Texts.{sized_layout}
 use Rattle.tree.proofs.Heads.{clash}
@@ -23,6 +23,14 @@ module _ (b : List ℕ) (at : ℕ) where
   pub short : length b ≤ 2147483647 → puts (sized_layout b) ≡ bytes_output b at
   unfolding bytes_output fail_if
   short h = rw (le-ltb _ _ h)
+
+  -- a text that is too long: the answer, and the buffer, which stays
+  pub long_told : (out : List ℕ) → at ≤ length out → 2147483647 < length b → judged (bytes_write b out at) ≡ refused 16 at
+  long_told out h i = rw (← write_fault (bytes_output b at) out at h (too_long_lem i))
+
+  pub long_left : (out : List ℕ) → at ≤ length out → 2147483647 < length b → left (bytes_write b out at) out ≡ out
+  unfolding left
+  long_left out h i = rw (← write_fault (bytes_output b at) out at h (too_long_lem i))
 
   -- what was written was short
   pub is_short : (out : List ℕ) {new : List ℕ} {next : ℕ} → gives new next ≡ bytes_write b out at → length b ≤ 2147483647

@@ -9,6 +9,7 @@ use wire::refusal::{Kind, Refusal};
 
 // Bytes behind their length, whatever they are. Refuses 2, 16, 15.
 // FF at 0 of 5 bytes AA leaves 00 00 00 01 FF and ends at 5; FF at 1 of them is refused: 15 at 1.
+#[tactic(auto, using(crate::proofs::Outputs::long_told, crate::proofs::Outputs::long_left))]
 pub fn write_bytes(out: &mut [u8], cursor: Cursor, b: &[u8]) -> Moved
     ensures { Wrote result out.new out.old (bytes_write b.now out.old cursor.at) }
 {

@@ -12,12 +12,6 @@ use Rattle.message.proofs.read_message_begin.Goals as goal
 pub bounds-bytes-at : goal.bounds-bytes-at
 bounds-bytes-at c = omega (arith, (inside _ _ _ (told_as told_moved c.in-To.is c.past.ensures)).room)
 
-pub returns-then-strict : goal.returns-then-strict
-returns-then-strict c = ap told_message c.bad_version.ensures ∙ not_strict _ _ _ _ (told_as told_moved c.in-To.is c.past.ensures) c.if-bytes-at-lt128.true c.if-strict.true
-
-pub returns-then-bytes-at-lt128 : goal.returns-then-bytes-at-lt128
-returns-then-bytes-at-lt128 c = older _ _ _ _ (told_as told_moved c.in-To.is c.past.ensures) c.if-bytes-at-lt128.true c.if-strict.false c.read_unversioned.ensures
-
 pub bounds-bytes-at-in-To : goal.bounds-bytes-at-in-To
 bounds-bytes-at-in-To c = omega (arith, (inside _ _ _ (told_as told_moved c.in-To.is c.past.ensures)).room)
 

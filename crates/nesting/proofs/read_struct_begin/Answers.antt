@@ -15,8 +15,5 @@ returns-then-depth-gt65535 c = ap told_depth c.refused-then-depth-gt65535.ensure
 pub returns-then-reached_by : goal.returns-then-reached_by
 returns-then-reached_by c = ap told_depth c.refused-then-reached_by.ensures ∙ begin_limited _ _ _ _ (omega arith) (omega arith) (sym c.reached_by.ensures ∙ c.if-reached_by.true)
 
-pub returns-then-depth-eq65535 : goal.returns-then-depth-eq65535
-returns-then-depth-eq65535 c = ap told_depth c.refused-then-depth-eq65535.ensures ∙ begin_last _ _ _ _ (omega arith) (omega arith) (sym c.reached_by.ensures ∙ c.if-reached_by.false) c.if-depth-eq65535.true
-
 pub returns : goal.returns
-returns c = begun _ _ _ _ (omega arith) (omega arith) (sym c.reached_by.ensures ∙ c.if-reached_by.false) c.if-depth-eq65535.false
+returns c = begun _ _ _ _ (omega arith) (omega arith) (sym c.reached_by.ensures ∙ c.if-reached_by.false) (λ e. omega arith)

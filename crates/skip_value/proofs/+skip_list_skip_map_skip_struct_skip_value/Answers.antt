@@ -150,23 +150,20 @@ skip_struct-returns-in-Refused-read_field_begin m c = λ t e. tree.struct_head_c
 pub skip_struct-returns : goal.skip_struct-returns
 skip_struct-returns m c = λ t e. tree.own_refused binary binary_reads _ _ _ _ _ t fields _ _ (λ z. omega (arith, c.requires)) e (ap judged (told_as told_depth c.in-Refused.is c.read_struct_begin.ensures))
 
-pub skip_value-returns-then-depth-eq0 : goal.skip_value-returns-then-depth-eq0
-skip_value-returns-then-depth-eq0 m c = let a = c.args in tree.deep_answers binary binary_reads a.config a.bytes.now a.cursor.at a.depth a.struct_depth a.field_type c.if-depth-eq0.true c.refused.ensures
-
 pub skip_value-skip_struct-requires : goal.skip_value-skip_struct-requires
-skip_value-skip_struct-requires m c = (omega (arith, c.decreases), omega (arith, c.if-depth-eq0.false))
+skip_value-skip_struct-requires m c = (omega (arith, c.decreases), omega arith)
 
 pub skip_value-skip_list-requires : goal.skip_value-skip_list-requires
-skip_value-skip_list-requires m c = (omega (arith, c.decreases), omega (arith, c.if-depth-eq0.false))
+skip_value-skip_list-requires m c = (omega (arith, c.decreases), omega arith)
 
 pub skip_value-skip_map-requires : goal.skip_value-skip_map-requires
-skip_value-skip_map-requires m c = (omega (arith, c.decreases), omega (arith, c.if-depth-eq0.false))
+skip_value-skip_map-requires m c = (omega (arith, c.decreases), omega arith)
 
 pub skip_value-returns-in-Fixed : goal.skip_value-returns-in-Fixed
-skip_value-returns-in-Fixed m c = let a = c.args in leaf_answers a.config a.bytes.now a.cursor.at a.depth a.struct_depth (λ i. (c.shared_slice_known-1.given i).fits) a.field_type (Sh.Fixed c.in-Fixed.width) c.if-depth-eq0.false (sym c.shape_of.ensures ∙ c.in-Fixed.is) refl c.skip_fixed.ensures
+skip_value-returns-in-Fixed m c = let a = c.args in leaf_answers a.config a.bytes.now a.cursor.at a.depth a.struct_depth (λ i. (c.shared_slice_known-1.given i).fits) a.field_type (Sh.Fixed c.in-Fixed.width) (λ z. omega arith) (sym c.shape_of.ensures ∙ c.in-Fixed.is) refl c.skip_fixed.ensures
 
 pub skip_value-returns-in-Text : goal.skip_value-returns-in-Text
-skip_value-returns-in-Text m c = let a = c.args in leaf_answers a.config a.bytes.now a.cursor.at a.depth a.struct_depth (λ i. (c.shared_slice_known-1.given i).fits) a.field_type Sh.Text c.if-depth-eq0.false (sym c.shape_of.ensures ∙ c.in-Text.is) refl c.skip_text.ensures
+skip_value-returns-in-Text m c = let a = c.args in leaf_answers a.config a.bytes.now a.cursor.at a.depth a.struct_depth (λ i. (c.shared_slice_known-1.given i).fits) a.field_type Sh.Text (λ z. omega arith) (sym c.shape_of.ensures ∙ c.in-Text.is) refl c.skip_text.ensures
 
 pub skip_value-returns-in-Fields : goal.skip_value-returns-in-Fields
 skip_value-returns-in-Fields m c = c.skip_struct.ensures c.args.field_type (ap (λ k. (seen_as k).view) (sym c.shape_of.ensures ∙ c.in-Fields.is))
@@ -178,4 +175,4 @@ pub skip_value-returns-in-Pairs : goal.skip_value-returns-in-Pairs
 skip_value-returns-in-Pairs m c = c.skip_map.ensures c.args.field_type (ap (λ k. (seen_as k).view) (sym c.shape_of.ensures ∙ c.in-Pairs.is))
 
 pub skip_value-returns-in-Unfit : goal.skip_value-returns-in-Unfit
-skip_value-returns-in-Unfit m c = let a = c.args in leaf_answers a.config a.bytes.now a.cursor.at a.depth a.struct_depth (λ i. (c.shared_slice_known-1.given i).fits) a.field_type Sh.Unfit c.if-depth-eq0.false (sym c.shape_of.ensures ∙ c.in-Unfit.is) refl c.refused-in-Unfit.ensures
+skip_value-returns-in-Unfit m c = let a = c.args in leaf_answers a.config a.bytes.now a.cursor.at a.depth a.struct_depth (λ i. (c.shared_slice_known-1.given i).fits) a.field_type Sh.Unfit (λ z. omega arith) (sym c.shape_of.ensures ∙ c.in-Unfit.is) refl c.refused-in-Unfit.ensures

@@ -11,9 +11,6 @@ use Rattle.write.proofs.string.write_bytes.Goals as goal
 pub returns-then-out-at : goal.returns-then-out-at
 returns-then-out-at c = let a = c.args in refuses_write (write_beyond _ a.out.now a.cursor.at (omega arith))
 
-pub returns-then-b-gt2147483647 : goal.returns-then-b-gt2147483647
-returns-then-b-gt2147483647 c = let a = c.args in refuses_write (write_fault _ a.out.now a.cursor.at (omega arith) (too_long_lem a.b.now a.cursor.at (omega arith)))
-
 pub returns-in-To : goal.returns-in-To
 returns-in-To c = let a = c.args in written _ a.out.now a.cursor.at _ (sized_layout a.b.now) (short a.b.now a.cursor.at (omega arith)) (length-sized a.b.now) c.room.ensures c.in-To.is c.put_sized.ensures
 
