@@ -1,5 +1,4 @@
 -- Assumes nothing.
-use borrow.Author.Rules.{rules}
 use Rattle.wire.proofs.Answers.{told_as}
 use Rattle.text.specs.Told.{told_text}
 use Rattle.framed.proofs.Frames.{at_end, no_frame, a_frame}

@@ -1,5 +1,4 @@
 -- Assumes nothing.
-use borrow.Author.Rules.{rules}
 use Rattle.wire.proofs.Writes.{nothing_put}
 use Rattle.write.proofs.Whole.{for_output}
 use Rattle.framed.proofs.Frames.{empty, full}

@@ -1,5 +1,4 @@
 -- Assumes nothing.
-use borrow.Author.Rules.{rules}
 use mathlib.Core.Path.{ap, ◌∙◌}
 use Rattle.skip.specs.Skips.{told_skipped}
 use Rattle.host.specs.Host.{filled}

@@ -1,5 +1,4 @@
 -- Assumes nothing.
-use borrow.Author.Rules.{rules}
 use Rattle.host.proofs.Rows.{three_put}
 use Rattle.host.proofs.fill.Goals as goal
 

@@ -1,5 +1,4 @@
 -- Assumes nothing.
-use borrow.Author.Rules.{rules}
 use Rattle.host.proofs.row_of.Goals as goal
 
 pub returns-in-Passed : goal.returns-in-Passed

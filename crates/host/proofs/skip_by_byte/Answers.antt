@@ -1,5 +1,4 @@
 -- Assumes nothing.
-use borrow.Author.Rules.{rules}
 use mathlib.Core.Path.{sym, ◌∙◌}
 use Rattle.codes.specs.declared.Typed.TheVariants as TypeOf
 use Rattle.skip.specs.Skips.{told_skipped}

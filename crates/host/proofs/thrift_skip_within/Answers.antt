@@ -1,5 +1,4 @@
 -- Assumes nothing.
-use borrow.Author.Rules.{rules}
 use Rattle.host.proofs.thrift_skip_within.Goals as goal
 
 pub returns : goal.returns

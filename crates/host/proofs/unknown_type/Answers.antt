@@ -1,5 +1,4 @@
 -- Assumes nothing.
-use borrow.Author.Rules.{rules}
 use native.Mathlib.Omega.{arith}
 use Rattle.wire.specs.Answer.{gives, refused}
 use Rattle.skip.specs.Skips.{told_skipped}

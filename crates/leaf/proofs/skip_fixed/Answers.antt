@@ -1,5 +1,4 @@
 -- Assumes nothing.
-use borrow.Author.Rules.{rules}
 use mathlib.Core.Path.{ap}
 use Rattle.wire.proofs.Answers.{told_as}
 use Rattle.wire.specs.Refusals.{told_moved}

@@ -1,12 +1,11 @@
 -- Assumes nothing.
-use borrow.Author.Rules.{rules}
 use native.Mathlib.Omega.{arith}
 use mathlib.Core.Path.{ap, ◌∙◌}
 use Rattle.wire.proofs.Answers.{told_as}
 use Rattle.wire.specs.Refusals.{told_moved}
 use Rattle.wire.proofs.Within.{inside}
 use Rattle.message.specs.Told.{told_message}
-use Rattle.message.proofs.Messages.{no_header, not_strict, older, bad_first, bad_second, newer}
+use Rattle.message.proofs.Messages.{no_header, bad_first, bad_second, newer}
 use Rattle.message.proofs.read_message_begin.Goals as goal
 
 pub bounds-bytes-at : goal.bounds-bytes-at

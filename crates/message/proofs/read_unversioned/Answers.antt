@@ -1,5 +1,4 @@
 -- Assumes nothing.
-use borrow.Author.Rules.{rules}
 use Rattle.wire.proofs.Answers.{told_as}
 use Rattle.text.specs.Told.{told_text}
 use Rattle.message.specs.Told.{told_message_type}

@@ -1,9 +1,8 @@
 -- Assumes nothing.
-use borrow.Author.Rules.{rules}
 use native.Mathlib.Omega.{arith}
 use mathlib.Core.Path.{sym, ap, ◌∙◌}
 use Rattle.nesting.specs.Structs.{told_depth}
-use Rattle.nesting.proofs.Structs.{begin_beyond, begin_deep, begin_limited, begin_last, begun}
+use Rattle.nesting.proofs.Structs.{begin_beyond, begin_deep, begin_limited, begun}
 use Rattle.nesting.proofs.read_struct_begin.Goals as goal
 
 pub returns-then-bytes-at : goal.returns-then-bytes-at

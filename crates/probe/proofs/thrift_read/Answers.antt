@@ -1,5 +1,4 @@
 -- Assumes nothing.
-use borrow.Author.Rules.{rules}
 use Rattle.probe.proofs.Steps.{too_small, done}
 use Rattle.probe.proofs.thrift_read.Goals as goal
 

@@ -1,5 +1,4 @@
 -- Assumes nothing.
-use borrow.Author.Rules.{rules}
 use Rattle.probe.proofs.Writes.{write_too_small, write_done}
 use Rattle.probe.proofs.thrift_write.Goals as goal
 

@@ -1,5 +1,4 @@
 -- Assumes nothing.
-use borrow.Author.Rules.{rules}
 use Rattle.probe_reads.proofs.asked_with.Goals as goal
 
 pub returns : goal.returns

@@ -1,5 +1,4 @@
 -- Assumes nothing.
-use borrow.Author.Rules.{rules}
 use mathlib.Core.Path.{ap, ◌∙◌}
 use Rattle.probe_rows.specs.Rows.{row_by, frame_row, list_row, map_row, message_row, none_row, number_row, set_row, span_row}
 use Rattle.probe_reads.proofs.bounded.Goals as goal

@@ -1,5 +1,4 @@
 -- Assumes nothing.
-use borrow.Author.Rules.{rules}
 use mathlib.Core.Path.{refl, ap}
 use Rattle.probe_rows.specs.declared.Stepped.TheVariants as To
 use Rattle.probe_reads.proofs.by_step.Goals as goal

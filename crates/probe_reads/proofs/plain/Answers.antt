@@ -1,5 +1,4 @@
 -- Assumes nothing.
-use borrow.Author.Rules.{rules}
 use mathlib.Core.Path.{ap, ◌∙◌}
 use mir.Syntax.{w8, w16, w32, w64}
 use Rattle.probe_rows.specs.Rows.{row_by, bits_row, bool_row, double_row, field_row, message_type_row, none_row, number_row, span_row, type_row}

@@ -1,5 +1,4 @@
 -- Assumes nothing.
-use borrow.Author.Rules.{rules}
 use mathlib.Core.Path.{ap, ◌∙◌}
 use Rattle.probe_rows.specs.Rows.{row_by, scalar_row}
 use Rattle.probe_rows.specs.declared.Stepped.TheVariants as To

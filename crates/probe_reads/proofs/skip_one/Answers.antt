@@ -1,5 +1,4 @@
 -- Assumes nothing.
-use borrow.Author.Rules.{rules}
 use Rattle.probe_reads.proofs.Steps.{skip_step, no_kind}
 use Rattle.probe_reads.proofs.skip_one.Goals as goal
 

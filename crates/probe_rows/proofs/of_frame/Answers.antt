@@ -1,5 +1,4 @@
 -- Assumes nothing.
-use borrow.Author.Rules.{rules}
 use Rattle.probe_rows.proofs.of_frame.Goals as goal
 
 pub returns-in-Frame : goal.returns-in-Frame

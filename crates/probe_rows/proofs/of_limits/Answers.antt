@@ -1,5 +1,4 @@
 -- Assumes nothing.
-use borrow.Author.Rules.{rules}
 use Rattle.probe_rows.proofs.of_limits.Goals as goal
 
 pub returns-in-Limits : goal.returns-in-Limits

@@ -1,5 +1,4 @@
 -- Assumes nothing.
-use borrow.Author.Rules.{rules}
 use Rattle.probe_rows.proofs.of_scalar.Goals as goal
 
 pub returns-in-Value : goal.returns-in-Value

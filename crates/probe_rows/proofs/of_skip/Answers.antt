@@ -1,5 +1,4 @@
 -- Assumes nothing.
-use borrow.Author.Rules.{rules}
 use Rattle.probe_rows.proofs.of_skip.Goals as goal
 
 pub returns-in-Passed : goal.returns-in-Passed

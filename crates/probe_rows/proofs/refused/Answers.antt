@@ -1,5 +1,4 @@
 -- Assumes nothing.
-use borrow.Author.Rules.{rules}
 use Rattle.probe_rows.proofs.refused.Goals as goal
 
 pub returns : goal.returns

@@ -1,5 +1,4 @@
 -- Assumes nothing.
-use borrow.Author.Rules.{rules}
 use Rattle.probe_writes.proofs.by_number.Goals as goal
 
 pub returns : goal.returns

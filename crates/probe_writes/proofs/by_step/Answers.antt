@@ -1,5 +1,4 @@
 -- Assumes nothing.
-use borrow.Author.Rules.{rules}
 use Rattle.probe_writes.proofs.Steps.{put_down, stayed, undone}
 use Rattle.probe_writes.proofs.by_step.Goals as goal
 

@@ -1,5 +1,4 @@
 -- Assumes nothing.
-use borrow.Author.Rules.{rules}
 use mathlib.Core.Path.{sym, ◌∙◌}
 use Rattle.probe_writes.proofs.Steps.{put_down, undone}
 use Rattle.probe_writes.proofs.headed_by_kind.Goals as goal

@@ -1,5 +1,4 @@
 -- Assumes nothing.
-use borrow.Author.Rules.{rules}
 use Rattle.probe_writes.proofs.Steps.{one_by_one}
 use Rattle.probe_writes.proofs.sixteen.Goals as goal
 

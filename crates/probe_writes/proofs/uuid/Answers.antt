@@ -1,5 +1,4 @@
 -- Assumes nothing.
-use borrow.Author.Rules.{rules}
 use borrow.Author.Tests.{eq-eqb, ne_eqb}
 use Rattle.probe_writes.proofs.Steps.{put_down, undone}
 use Rattle.probe_writes.proofs.uuid.Goals as goal

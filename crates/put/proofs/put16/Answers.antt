@@ -1,5 +1,4 @@
 -- Assumes nothing.
-use borrow.Author.Rules.{rules}
 use native.Mathlib.Omega.{arith}
 use lib.Seq.{sets-eq}
 use Rattle.number.specs.BigEndian.{bytes_of}

@@ -1,5 +1,4 @@
 -- Assumes nothing.
-use borrow.Author.Rules.{rules}
 use native.Mathlib.Omega.{arith}
 use Rattle.put.proofs.Texts.{no_sized, sized}
 use Rattle.put.proofs.put_sized.Goals as goal

@@ -1,5 +1,4 @@
 -- Assumes nothing.
-use borrow.Author.Rules.{rules}
 use Rattle.reader.proofs.skip_at.Goals as goal
 
 pub returns : goal.returns

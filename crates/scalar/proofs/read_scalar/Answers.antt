@@ -1,5 +1,4 @@
 -- Assumes nothing.
-use borrow.Author.Rules.{rules}
 use mathlib.Core.Path.{ap, ◌∙◌}
 use Rattle.wire.specs.Answer.{mapped}
 use Rattle.scalar.specs.declared.Scalar.TheVariants as S

@@ -1,5 +1,4 @@
 -- Assumes nothing.
-use borrow.Author.Rules.{rules}
 use Rattle.sign.proofs.Floats.{same_plain, differs_nan}
 use Rattle.sign.proofs.pattern.Goals as goal
 

@@ -1,5 +1,4 @@
 -- Assumes nothing.
-use borrow.Author.Rules.{rules}
 use mir.Syntax.{w16}
 use Rattle.sign.proofs.TwosComplement.{flipped}
 use Rattle.sign.proofs.signed16.Goals as goal

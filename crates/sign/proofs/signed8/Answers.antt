@@ -1,5 +1,4 @@
 -- Assumes nothing.
-use borrow.Author.Rules.{rules}
 use mir.Syntax.{w8}
 use Rattle.sign.proofs.TwosComplement.{flipped}
 use Rattle.sign.proofs.signed8.Goals as goal

@@ -1,8 +1,6 @@
 -- The cycle of calls. A value's skip calls those of a struct, a list and a map at the same depth, and they call it at the depth less one: so the
 -- measures are twice the depth, and one more for a value's. Assumes nothing.
 use mathlib.Core.Path.{◌≡◌, refl, sym, ap, ◌∙◌}
-use Prim.Native.Nat.{ℕ, ◌+◌, ◌-◌, ◌<◌}
-use lib.ListN.{length}
 use mir.Syntax.{w32}
 use mir.Val.{to_z, of_z}
 use native.Mathlib.Omega.{arith}

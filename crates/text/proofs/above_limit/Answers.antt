@@ -1,5 +1,4 @@
 -- Assumes nothing.
-use borrow.Author.Rules.{rules}
 use mathlib.Core.Path.{sym, ap}
 use Rattle.text.specs.Texts.{over_number}
 use Rattle.text.proofs.above_limit.Goals as goal

@@ -1,5 +1,4 @@
 -- Assumes nothing.
-use borrow.Author.Rules.{rules}
 use mathlib.Core.Path.{ap}
 use Rattle.wire.proofs.Answers.{told_as}
 use Rattle.text.specs.Texts.{part_found}

@@ -1,5 +1,4 @@
 -- Assumes nothing.
-use borrow.Author.Rules.{rules}
 use native.Mathlib.Omega.{arith}
 use Rattle.text.proofs.Texts.{part_empty, part_outside, part_inside}
 use Rattle.text.proofs.part.Goals as goal

@@ -1,5 +1,4 @@
 -- Assumes nothing.
-use borrow.Author.Rules.{rules}
 use Rattle.wire.proofs.Answers.{told_as}
 use Rattle.text.specs.Told.{told_text}
 use Rattle.text.proofs.Texts.{sized_lies, no_text, text_taken, not_utf8_lem, string}

@@ -1,9 +1,8 @@
 -- The rows are tried one after another. Assumes nothing.
-use Prim.Native.Nat.{ℕ}
-use mathlib.Core.Path.{◌≡◌, sym, ◌∙◌}
-use mathlib.Core.List.{List, []}
-use lib.ListN.{get_or, drop}
-use Rattle.utf8.specs.UpTo.{table, fits, width}
+use mathlib.Core.Path.{sym, ◌∙◌}
+use mathlib.Core.List.{[]}
+use lib.ListN.{get_or}
+use Rattle.utf8.specs.UpTo.{table}
 use Rattle.utf8.proofs.Rows.{hit, miss, no_row}
 use Rattle.utf8.proofs.char_at.Goals as goal
 

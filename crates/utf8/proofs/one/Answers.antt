@@ -1,5 +1,4 @@
 -- Assumes nothing.
-use borrow.Author.Rules.{rules}
 use borrow.Author.Tests.{le-leb, lt-leb}
 use Rattle.utf8.proofs.Rows.{a_byte, no_byte}
 use Rattle.utf8.proofs.one.Goals as goal

@@ -1,13 +1,11 @@
 -- The bytes passed are a text, and each turn adds a character to it. Assumes nothing.
 -- the bytes and the place, where a character was found
 use native.Mathlib.Omega.{arith}
-use borrow.Author.Rules.{rules}
-use Prim.Native.Nat.{ℕ, ◌-◌, ◌≤◌, zero-le}
+use Prim.Native.Nat.{ℕ, zero-le}
 use mathlib.Core.Path.{sym, ◌∙◌}
 use mathlib.Core.List.{List}
-use lib.ListN.{length, take, drop, length-drop}
+use lib.ListN.{drop, length-drop}
 use lib.Seq.{take-add}
-use Rattle.utf8.specs.Utf8.{Text}
 use Rattle.utf8.specs.Utf8.Text.{empty, more}
 use Rattle.utf8.proofs.Chars.{Stands, stands}
 use Rattle.utf8.proofs.UpTo.{nothing, up_to_only}

@@ -1,5 +1,4 @@
 -- Assumes nothing.
-use borrow.Author.Rules.{rules}
 use Rattle.write_message.proofs.Pieces.{unversioned}
 use Rattle.write_message.proofs.put_unversioned.Goals as goal
 

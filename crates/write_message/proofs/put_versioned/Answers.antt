@@ -1,5 +1,4 @@
 -- Assumes nothing.
-use borrow.Author.Rules.{rules}
 use Rattle.write_message.proofs.Pieces.{versioned}
 use Rattle.write_message.proofs.put_versioned.Goals as goal
 

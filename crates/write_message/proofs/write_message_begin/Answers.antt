@@ -1,5 +1,4 @@
 -- Assumes nothing.
-use borrow.Author.Rules.{rules}
 use mathlib.Core.Path.{◌∙◌}
 use mathlib.Core.Bool.{true, false}
 use mir.Syntax.{w32}

@@ -1,5 +1,4 @@
 -- Assumes nothing.
-use borrow.Author.Rules.{rules}
 use Rattle.write_scalars.proofs.write_bool.Goals as goal
 
 pub returns-then-b : goal.returns-then-b

@@ -1,5 +1,4 @@
 -- Assumes nothing.
-use borrow.Author.Rules.{rules}
 use Rattle.write_scalars.proofs.write_double.Goals as goal
 
 pub returns : goal.returns

@@ -1,5 +1,4 @@
 -- Assumes nothing.
-use borrow.Author.Rules.{rules}
 use mathlib.Core.Path.{refl}
 use mathlib.Core.Path.{◌∙◌}
 use mir.Syntax.{w16}

@@ -1,5 +1,4 @@
 -- Assumes nothing.
-use borrow.Author.Rules.{rules}
 use mathlib.Core.Path.{◌∙◌}
 use mir.Syntax.{w8}
 use Rattle.sign.proofs.TwosComplement.{sent}

@@ -1,5 +1,4 @@
 -- Assumes nothing.
-use borrow.Author.Rules.{rules}
 use mathlib.Core.Path.{refl}
 use Rattle.number.specs.BigEndian.{bytes_of}
 use Rattle.number.proofs.Widths.{length-bytes_of}

@@ -1,5 +1,4 @@
 -- Assumes nothing.
-use borrow.Author.Rules.{rules}
 use native.Mathlib.Omega.{arith}
 use Rattle.number.proofs.Widths.{byte_from}
 use Rattle.number.proofs.big.be32.Goals as goal

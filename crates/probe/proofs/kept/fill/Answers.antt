@@ -1,5 +1,4 @@
 -- Assumes nothing.
-use borrow.Author.Rules.{rules}
 use Rattle.probe.proofs.Filled.{six_put}
 use Rattle.probe.proofs.kept.fill.Goals as goal
 

@@ -1,6 +1,5 @@
 -- Assumes nothing.
 -- the size that was read fits the identifier
-use borrow.Author.Rules.{rules}
 use Prim.Native.Nat.{◌<◌}
 use mir.Syntax.{w32}
 use mir.ValLaws.{to_z_pos}

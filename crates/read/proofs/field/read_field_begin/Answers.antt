@@ -1,5 +1,4 @@
 -- Assumes nothing.
-use borrow.Author.Rules.{rules}
 use Rattle.read.specs.Told.{told_type}
 use Rattle.wire.proofs.Answers.{told_as}
 use Rattle.read.proofs.Headers.{no_field}

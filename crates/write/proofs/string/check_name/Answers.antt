@@ -1,5 +1,4 @@
 -- Assumes nothing.
-use borrow.Author.Rules.{rules}
 use native.Mathlib.Omega.{arith}
 use Rattle.write.proofs.Outputs.{name_beyond, name_too_long, name_not_utf8, named}
 use Rattle.write.proofs.string.check_name.Goals as goal

@@ -1,10 +1,9 @@
 -- Assumes nothing.
-use borrow.Author.Rules.{rules}
 use native.Mathlib.Omega.{arith}
-use Rattle.wire.proofs.Writes.{refuses_write, write_beyond, write_fault}
+use Rattle.wire.proofs.Writes.{refuses_write, write_beyond}
 use Rattle.text.proofs.Layouts.{length-sized}
 use Rattle.text.specs.Texts.{sized_layout}
-use Rattle.write.proofs.Outputs.{too_long_lem, short}
+use Rattle.write.proofs.Outputs.{short}
 use Rattle.write.proofs.Whole.{unwritten, written}
 use Rattle.write.proofs.string.write_bytes.Goals as goal
 

@@ -1,5 +1,4 @@
 -- Assumes nothing.
-use borrow.Author.Rules.{rules}
 use mathlib.Core.Path.{sym, ◌∙◌}
 use Rattle.wire.specs.Refusals.{told_moved}
 use Rattle.wire.proofs.Answers.{told_as}

@@ -1,5 +1,4 @@
 -- Assumes nothing.
-use borrow.Author.Rules.{rules}
 use mathlib.Core.Path.{refl}
 use native.Mathlib.Omega.{arith}
 use mathlib.Core.List.{[], ◌∷◌}

@@ -1,5 +1,4 @@
 -- Assumes nothing.
-use borrow.Author.Rules.{rules}
 use Rattle.write_headers.proofs.field.write_field_stop.Goals as goal
 
 pub returns : goal.returns

@@ -1,5 +1,4 @@
 -- Assumes nothing.
-use borrow.Author.Rules.{rules}
 use mathlib.Core.Path.{sym, ◌∙◌}
 use Rattle.config.proofs.Building.{frame_above_lem, kept}
 use Rattle.config.proofs.configuration.TConfiguration.build.Goals as goal

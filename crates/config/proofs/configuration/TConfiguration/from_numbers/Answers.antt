@@ -1,5 +1,4 @@
 -- Assumes nothing.
-use borrow.Author.Rules.{rules}
 use Rattle.config.proofs.configuration.TConfiguration.from_numbers.Goals as goal
 
 pub returns : goal.returns

@@ -1,5 +1,4 @@
 -- Assumes nothing.
-use borrow.Author.Rules.{rules}
 use Rattle.config.proofs.limit.Limit.exceeded_by.Goals as goal
 
 pub returns-in-AtMost : goal.returns-in-AtMost
