@@ -1,5 +1,4 @@
 -- Assumes nothing.
--- a signed number that a pattern binds is read again from its bits
 use borrow.Author.Rules.{rules}
 use mathlib.Core.Path.{◌≡◌}
 use mir.Syntax.{w32}
@@ -9,6 +8,7 @@ use Rattle.wire.proofs.Answers.{told_as}
 use Rattle.message.proofs.Messages.{no_sequence, sequence}
 use Rattle.message.proofs.read_sequence.Goals as goal
 
+-- a signed number that a pattern binds is read again from its bits
 same : (c : goal.In-Value) → to_z w32 (of_z w32 c.in-Value.sequence_number) ≡ c.in-Value.sequence_number
 same c = search rules
 

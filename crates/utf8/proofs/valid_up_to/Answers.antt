@@ -1,5 +1,4 @@
 -- The bytes passed are a text, and each turn adds a character to it. Assumes nothing.
--- the bytes and the place, where a character was found
 use native.Mathlib.Omega.{arith}
 use Prim.Native.Nat.{ℕ, zero-le}
 use mathlib.Core.Path.{sym, ◌∙◌}
@@ -11,6 +10,7 @@ use Rattle.utf8.proofs.Chars.{Stands, stands}
 use Rattle.utf8.proofs.UpTo.{nothing, up_to_only}
 use Rattle.utf8.proofs.valid_up_to.Goals as goal
 
+-- the bytes and the place, where a character was found
 abbrev S : goal.Else-width-eq0 → List ℕ
 S c = c.args.text.now
 

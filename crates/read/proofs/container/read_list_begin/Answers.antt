@@ -1,5 +1,4 @@
 -- Assumes nothing.
--- the size that was read fits the identifier
 use Prim.Native.Nat.{◌<◌}
 use mir.Syntax.{w32}
 use mir.ValLaws.{to_z_pos}
@@ -11,6 +10,7 @@ use Rattle.wire.proofs.Answers.{told_as}
 use Rattle.read.proofs.Headers.{count_below, no_element_type, no_list, a_list}
 use Rattle.read.proofs.container.read_list_begin.Goals as goal
 
+-- the size that was read fits the identifier
 small : (c : goal.In-Value-read_count) → c.in-Value-read_count.len < 2147483648
 small c = count_below _ _ _ _ (told_as told_size c.in-Value-read_count.is c.read_count.ensures)
 

@@ -1,5 +1,4 @@
 -- Assumes nothing.
--- a signed field is read again from its bits
 use borrow.Author.Rules.{rules}
 use mathlib.Core.Path.{◌≡◌}
 use mir.Syntax.{w32}
@@ -9,6 +8,7 @@ use Rattle.read.specs.Told.{told_list}
 use Rattle.read.proofs.Headers.{no_set, a_set}
 use Rattle.read.proofs.container.read_set_begin.Goals as goal
 
+-- a signed field is read again from its bits
 same : (c : goal.After-struct_told-1) → to_z w32 (of_z w32 c.in-Value.list.size) ≡ c.in-Value.list.size
 same c = search rules
 
