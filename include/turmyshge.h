@@ -32,8 +32,8 @@ typedef char turmyshge_size_has_64_bits[sizeof(size_t) == 8 ? 1 : -1];
 #define TURMYSHGE_GREATEST_DEPTH 127
 
 /*
- * Bytes of stack that suffice for a call of any depth. That is measured and not proved: a call takes 288 bytes a level
- * and 36,936 for all 127, on an x86-64 machine; examples/c/stack.c measures it where it is run.
+ * Bytes of stack that suffice for a call of any depth. That is measured and not proved: a call takes 272 bytes a level
+ * and 34,824 for all 127, on an x86-64 machine; examples/c/stack.c measures it where it is run.
  */
 #define TURMYSHGE_STACK 65536
 

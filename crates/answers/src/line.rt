@@ -1,12 +1,7 @@
 // A line of the kept list, cut into words: numbers and strings of bytes, both in hex, with a space between two.
 ghost use Rattle.std.specs.Prelude.{◌≤◌};
 
-// A number, or how many bytes a string of them has, and where the next word begins.
-#[derive(Clone, Copy)]
-pub struct Word {
-    pub value: u64,
-    pub next: usize,
-}
+use arrayvec::ArrayVec;
 
 // The value of a digit; what is none counts as some digit.
 fn digit(b: u8) -> u8
@@ -18,69 +13,53 @@ fn digit(b: u8) -> u8
     (b % 16 + 9) % 16
 }
 
-// The byte at a place, a space where there is none: so a word ends with the line.
-fn byte(line: &[u8], at: usize) -> u8 {
-    if at < line.len() {
-        return line[at];
-    }
-    b' '
+// The first byte, a space where there is none: so a word ends with the line.
+fn first(line: &[u8]) -> u8 {
+    line.first().copied().unwrap_or(b' ')
+}
+
+// The line behind its first byte.
+fn behind(line: &[u8]) -> &[u8] {
+    line.get(1..).unwrap_or(&[])
 }
 
 // A word ends with a space, the line's end, or where there is a dash for no bytes.
-fn goes_on(line: &[u8], at: usize) -> bool {
-    let b = byte(line, at);
-    b != b' ' && b != b'\n' && b != b'-'
+fn ends(b: u8) -> bool {
+    matches!(b, b' ' | b'\n' | b'-')
 }
 
-// The place after one byte, at most the end.
-fn after(line: &[u8], at: usize) -> usize {
-    if at < line.len() {
-        return at + 1;
-    }
-    at
-}
-
-pub(crate) fn number(line: &[u8], from: usize) -> Word {
-    let mut at = from;
+// A number, and the line behind it.
+pub(crate) fn number(line: &[u8]) -> (u64, &[u8]) {
+    let end = line.iter().position(|b| ends(*b)).unwrap_or(line.len());
+    let (word, rest) = line.split_at(end);
     let mut value = 0;
-    while at < line.len() && goes_on(line, at) {
-        value = value % 0x1000_0000_0000_0000 * 16 + digit(line[at]) as u64;
-        at += 1;
+    for b in word {
+        value = value % 0x1000_0000_0000_0000 * 16 + digit(*b) as u64;
     }
-    Word {
-        value,
-        next: after(line, at),
-    }
+    (value, behind(rest))
 }
 
-// The 17 numbers that each line has; the place after them.
-pub(crate) fn numbers(line: &[u8], from: usize, out: &mut [u64; 17]) -> usize {
-    let mut next = from;
-    let mut i = 0;
-    while i < 17 {
-        let word = number(line, next);
-        out[i] = word.value;
-        next = word.next;
-        i += 1;
+// As many numbers as are asked for, and the line behind them.
+pub(crate) fn numbers<const N: usize>(line: &[u8]) -> ([u64; N], &[u8]) {
+    let mut numbers = [0; N];
+    let mut rest = line;
+    for cell in &mut numbers {
+        (*cell, rest) = number(rest);
     }
-    next
+    (numbers, rest)
 }
 
-// A string of at most 64 bytes. An empty one is a dash.
-pub(crate) fn bytes(line: &[u8], from: usize, out: &mut [u8; 64]) -> Word {
-    let mut at = from;
-    let mut n = 0;
-    while n < 64 && goes_on(line, at) {
-        let low = after(line, at);
-        out[n] = digit(byte(line, at)) * 16 + digit(byte(line, low));
-        n += 1;
-        at = after(line, low);
+// A string of at most 64 bytes, and the line behind it. An empty one is a dash.
+pub(crate) fn bytes(line: &[u8]) -> (ArrayVec<u8, 64>, &[u8]) {
+    let mut bytes = ArrayVec::new();
+    let mut rest = line;
+    while !bytes.is_full() && !ends(first(rest)) {
+        let low = behind(rest);
+        bytes.push(digit(first(rest)) * 16 + digit(first(low)));
+        rest = behind(low);
     }
-    if byte(line, at) == b'-' {
-        at = after(line, at);
+    if first(rest) == b'-' {
+        rest = behind(rest);
     }
-    Word {
-        value: n as u64,
-        next: after(line, at),
-    }
+    (bytes, behind(rest))
 }

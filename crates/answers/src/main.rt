@@ -4,56 +4,60 @@
 mod line;
 mod replay;
 
-fn read_whole(text: &mut [u8], n: usize) -> bool {
-    if text.len() < n {
-        return false;
-    }
-    let part = &mut text[0..n];
-    io::read_full(0, part) == n
+use std::io;
+use std::io::Read;
+
+// How many lines were answered as the crate does, and how many otherwise.
+#[derive(Clone, Copy)]
+struct Tally {
+    same: u64,
+    otherwise: u64,
 }
 
-fn same_line(text: &[u8], n: usize) -> bool {
-    if text.len() < n {
-        return false;
+// One line, which begins with the length of its rest in four digits. None where no line is left.
+fn next_is_same<R: Read>(rt: &impl Print, list: &mut R) -> Option<bool> {
+    let mut head = [0; 5];
+    list.read_exact(&mut head).ok()?;
+    let (length, _) = line::number(&head);
+    let mut text = [0; 1024];
+    let Some(line) = text.get_mut(..(length % 65536) as usize) else {
+        return Some(false);
+    };
+    if list.read_exact(line).is_err() {
+        return Some(false);
     }
-    let line = &text[0..n];
     if replay::same_answer(line) {
-        return true;
+        return Some(true);
     }
-    io::write_all(1, line);
-    false
+    // A line that can't be shown is counted all the same.
+    let _ = rt.write_all(line);
+    Some(false)
 }
 
-// One line, which begins with the length of its rest in four digits; counted as the same or as another. False at the end.
-fn replay_next(counts: &mut [u64; 2]) -> bool {
-    let mut head = [0u8; 5];
-    if io::read_full(0, &mut head) < 5 {
-        return false;
+// A proved loop has to end, and nothing says that the list does: so it is bounded by more lines than there are.
+fn replay_all<R: Read>(rt: &impl Print, list: &mut R) -> Tally {
+    let mut tally = Tally {
+        same: 0,
+        otherwise: 0,
+    };
+    for _ in 0..1_000_000 {
+        match next_is_same(rt, list) {
+            Some(true) => tally.same = tally.same % 1_000_000 + 1,
+            Some(false) => tally.otherwise = tally.otherwise % 1_000_000 + 1,
+            None => break,
+        }
     }
-    let n = (line::number(&head, 0).value % 65536) as usize;
-    let mut text = [0u8; 1024];
-    if read_whole(&mut text, n) && same_line(&text, n) {
-        counts[0] = counts[0] % 1_000_000 + 1;
-    } else {
-        counts[1] = counts[1] % 1_000_000 + 1;
-    }
-    true
+    tally
 }
 
-// A proved loop has to end, and nothing says that the list does: so it counts down from more lines than there are.
-fn replay_all(counts: &mut [u64; 2]) {
-    let mut turns = 1_000_000u64;
-    while turns > 0 && replay_next(counts) {
-        turns -= 1;
-    }
+fn tell(rt: &impl Print, tally: Tally) -> io::Result<()> {
+    println!(rt; "as the crate: {}", tally.same)?;
+    println!(rt; "otherwise: {}", tally.otherwise)
 }
 
-fn main() {
-    let mut counts = [0u64; 2];
-    replay_all(&mut counts);
-    io::write_all(1, b"as the crate: ");
-    io::print_decimal(1, counts[0]);
-    io::write_all(1, b"\notherwise: ");
-    io::print_decimal(1, counts[1]);
-    io::write_all(1, b"\n");
+// What can't be printed is let go, as there is no one to tell.
+fn main(rt: HostRuntime) {
+    let mut list = rt.stdin();
+    let tally = replay_all(&rt, &mut list);
+    let _ = tell(&rt, tally);
 }

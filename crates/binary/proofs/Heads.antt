@@ -1,4 +1,5 @@
 -- What the headers of `read` say of the bytes. Assumes nothing.
+use Rattle.std.specs.Prelude.{None, Option, Some}
 use Prim.Native.Nat.{ℕ, ◌+◌, ◌*◌, ◌<◌, ◌≤◌}
 use mathlib.Core.Path.{◌≡◌, refl, sym, ap, subst₂, ◌∙◌}
 use mathlib.Core.Bool.{Bool, true, false, cond}
@@ -16,8 +17,6 @@ use borrow.Author.Tests.{le-ltb, eqb-true}
 use Rattle.wire.specs.Answer.{Answer, gives, refused, and_then, within}
 use Rattle.codes.specs.Codes.{type_byte, type_of, is_stop, least_size}
 use Rattle.codes.specs.declared.TType.{TType}
-use Rattle.codes.specs.declared.Typed.{Typed}
-use Rattle.codes.specs.declared.Typed.TheVariants as TypeOf
 use Rattle.wire.proofs.Answers.{passed, went}
 use Rattle.codes.proofs.RoundTrips.{type_read}
 use Rattle.wire.proofs.Within.{inside}
@@ -52,16 +51,16 @@ type_is s at {t} {next} e =
     let a = went (byte_at s at) _ e in
     go a.value a.place (byte_part s at a.gave) (type_of a.value) refl a.on
   where
-    go : (b q : ℕ) → Part s at q (b ∷ []) → (k : Typed) → type_of b ≡ k → gives t next ≡ known at q k → TypeIs s at t next
-    go b q p (TypeOf.Known u) f h =
+    go : (b q : ℕ) → Part s at q (b ∷ []) → (k : Option TType) → type_of b ≡ k → gives t next ≡ known at q k → TypeIs s at t next
+    go b q p (Some u) f h =
         let same : u ≡ t = cc in
         let place : q ≡ next = cc in
-        let code : type_byte t ≡ b = type_read b t (f ∙ ap TypeOf.Known same) in
+        let code : type_byte t ≡ b = type_read b t (f ∙ ap Some same) in
         record {
           part = part_to next (part_is p (ap (λ (n : ℕ). n ∷ []) (sym code))) place;
-          reads = ap type_of code ∙ f ∙ ap TypeOf.Known same;
+          reads = ap type_of code ∙ f ∙ ap Some same;
         }
-    go b q p TypeOf.Unknown f h = clash (cc)
+    go b q p None f h = clash (cc)
 
 -- a 32-bit number that is not negative is its bits
 pub as_it_stands : (n : ℕ) → lt_z (to_z w32 n) (pos 0) ≡ false → nat_abs (to_z w32 n) ≡ n

@@ -1,4 +1,5 @@
 -- A header's refusal never lies before the header, in the binary encoding. Assumes nothing.
+use Rattle.std.specs.Prelude.{None, Option, Some}
 use Prim.Native.Nat.{ℕ, ◌+◌, ◌≤◌}
 use mathlib.Core.Bool.{Bool, true, false, cond}
 use mathlib.Core.List.{List}
@@ -9,10 +10,7 @@ use native.Mathlib.Omega.{arith}
 use Rattle.wire.specs.Answer.{gives, and_then, within}
 use Rattle.codes.specs.Codes.{type_of, is_stop, least_size}
 use Rattle.codes.specs.declared.TType.{TType}
-use Rattle.codes.specs.declared.Typed.{Typed}
-use Rattle.codes.specs.declared.Typed.TheVariants as TypeOf
 use Rattle.number.specs.Reads.{byte_at, i16_at, i32_at}
-use Rattle.config.specs.declared.limit.Limit.{Limit}
 use Rattle.config.specs.declared.configuration.TConfiguration.{TConfiguration}
 use Rattle.text.specs.Texts.{size_at, over_number, sized_at, limited_at}
 use Rattle.text.proofs.Texts.{limited_is}
@@ -26,9 +24,9 @@ module _ (s : List ℕ) where
   unfolding type_at
   type_later at = then_later at (byte_at s at) _ (digits-later s 1 (λ (n : ℕ). n) at) (λ b q e. by_known (type_of b) q)
     where
-      by_known : (k : Typed) (q : ℕ) → Later at (known at q k)
-      by_known (TypeOf.Known t) q = gives_later t q at
-      by_known TypeOf.Unknown q = here_later 5 at
+      by_known : (k : Option TType) (q : ℕ) → Later at (known at q k)
+      by_known (Some t) q = gives_later t q at
+      by_known None q = here_later 5 at
 
   pub field_later : (at : ℕ) → Later at (field_at s at)
   unfolding field_at
@@ -44,7 +42,7 @@ module _ (s : List ℕ) where
   unfolding size_at
   size_later at = then_later at (i32_at s at) _ (digits-later s 4 (to_z w32) at) (λ v q e. if_later _ 6 at _ (gives_later (nat_abs v) q at))
 
-  pub sized_later : (body : Body) (l : Limit) (at : ℕ) → Later at (sized_at body l s at)
+  pub sized_later : (body : Body) (l : Option ℕ) (at : ℕ) → Later at (sized_at body l s at)
   unfolding sized_at limited_at
   sized_later body l at =
       then_later at (limited_at body l s at) _

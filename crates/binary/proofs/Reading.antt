@@ -1,4 +1,5 @@
 -- What the bytes of a tree say to the headers of `read`: where the bytes of a header stand, the read gives that header. Assumes nothing.
+use Rattle.std.specs.Prelude.{Option}
 use Prim.Native.Nat.{ℕ, ◌+◌, ◌<◌, zero-le}
 use mathlib.Core.Path.{◌≡◌, refl, sym, ap, ◌∙◌}
 use mathlib.Core.Bool.{false}
@@ -19,7 +20,6 @@ use Rattle.number.specs.BigEndian.{big, bytes_of}
 use Rattle.number.specs.Reads.{byte_at, i32_at}
 use Rattle.number.proofs.Widths.{written, length-bytes_of}
 use Rattle.config.specs.Limits.{above}
-use Rattle.config.specs.declared.limit.Limit.{Limit}
 use Rattle.config.specs.declared.configuration.TConfiguration.{TConfiguration}
 use Rattle.text.specs.Texts.{span, sized_layout, size_at, sized_at, bytes_at}
 use Rattle.text.proofs.Texts as texts
@@ -47,7 +47,7 @@ size_reads {s} {at} {e} n h p =
     texts.size s at read (le-ltb n 0 zero-le)
 
 -- a size and its bytes, with any number for the limit
-pub sized_reads : {s : List ℕ} {at e : ℕ} (body : Body) (limit : Limit) (b : List ℕ) → length b < 2147483648 → above (length b) limit ≡ false
+pub sized_reads : {s : List ℕ} {at e : ℕ} (body : Body) (limit : Option ℕ) (b : List ℕ) → length b < 2147483648 → above (length b) limit ≡ false
     → Part s at e (sized_layout b) → gives (span (at + 4) e) e ≡ sized_at body limit s at
 sized_reads {s} {at} {e} body limit b f g p =
     let sp = part_split (bytes_of 4 (length b)) b p in

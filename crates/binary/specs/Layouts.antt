@@ -1,9 +1,8 @@
 -- Which bytes are a value with no value in it, and which a header: "Layout comes from Apache's public Thrift binary protocol document".
-use Rattle.std.specs.Prelude.{ℕ, ◌+◌, ◌≡◌, false, List, [], ◌∷◌, length}
+use Rattle.std.specs.Prelude.{ℕ, ◌+◌, ◌≡◌, false, List, [], ◌∷◌, length, Some}
 use Rattle.codes.specs.Codes.{type_byte, type_of, is_stop, least_size}
 use Rattle.codes.specs.declared.TType.{TType}
 use Rattle.codes.specs.declared.TType.TheVariants as T
-use Rattle.codes.specs.declared.Typed.TheVariants as TypeOf
 use Rattle.config.specs.declared.configuration.TConfiguration.{TConfiguration}
 use Rattle.text.specs.Texts.{sized_layout}
 use Rattle.read.specs.Layouts.{field_layout, list_layout, map_layout}
@@ -12,7 +11,7 @@ use Rattle.tree.specs.Coding.{Items, Paired, Heading, stop, going}
 
 -- "Utf7 writes as 0B; 0B reads as String": a type in a header is one that its byte reads as, which is every one but Utf7
 abbrev pub Readable : TType → Type 0
-Readable t = type_of (type_byte t) ≡ TypeOf.Known t
+Readable t = type_of (type_byte t) ≡ Some t
 
 -- "a string its length and body, no UTF-8 check"
 pub record TextBytes (c : TConfiguration) (b : List ℕ) : Type 0 where

@@ -1,13 +1,9 @@
 -- The bytes that stand for types and for message types, and the least sizes of 01's rule 9.
-use Rattle.std.specs.Prelude.{ℕ, Bool, List, [], ◌∷◌, eqb, get_or}
+use Rattle.std.specs.Prelude.{ℕ, Bool, List, [], ◌∷◌, eqb, get_or, Option, Some, None}
 use Rattle.codes.specs.declared.TType.{TType}
 use Rattle.codes.specs.declared.TType.TheVariants as T
 use Rattle.codes.specs.declared.TMessageType.{TMessageType}
 use Rattle.codes.specs.declared.TMessageType.TheVariants as M
-use Rattle.codes.specs.declared.Typed.{Typed}
-use Rattle.codes.specs.declared.Typed.TheVariants as TypeOf
-use Rattle.codes.specs.declared.Messaged.{Messaged}
-use Rattle.codes.specs.declared.Messaged.TheVariants as MessageOf
 
 -- the byte that a type is written as
 abbrev pub type_byte : TType → ℕ
@@ -28,29 +24,29 @@ type_byte T.List = 0x0F
 type_byte T.Uuid = 0x10
 
 -- what each byte is read as, from 00 on: 0B as String; 05, 07 and 09 stand for nothing, and so do all above 10 (hex)
-abbrev pub types : List Typed
+abbrev pub types : List (Option TType)
 types =
-    TypeOf.Known T.Stop  -- 00
-    ∷ TypeOf.Known T.Void  -- 01
-    ∷ TypeOf.Known T.Bool  -- 02
-    ∷ TypeOf.Known T.I08  -- 03
-    ∷ TypeOf.Known T.Double  -- 04
-    ∷ TypeOf.Unknown  -- 05
-    ∷ TypeOf.Known T.I16  -- 06
-    ∷ TypeOf.Unknown  -- 07
-    ∷ TypeOf.Known T.I32  -- 08
-    ∷ TypeOf.Unknown  -- 09
-    ∷ TypeOf.Known T.I64  -- 0A
-    ∷ TypeOf.Known T.String  -- 0B
-    ∷ TypeOf.Known T.Struct  -- 0C
-    ∷ TypeOf.Known T.Map  -- 0D
-    ∷ TypeOf.Known T.Set  -- 0E
-    ∷ TypeOf.Known T.List  -- 0F
-    ∷ TypeOf.Known T.Uuid  -- 10
+    Some T.Stop  -- 00
+    ∷ Some T.Void  -- 01
+    ∷ Some T.Bool  -- 02
+    ∷ Some T.I08  -- 03
+    ∷ Some T.Double  -- 04
+    ∷ None  -- 05
+    ∷ Some T.I16  -- 06
+    ∷ None  -- 07
+    ∷ Some T.I32  -- 08
+    ∷ None  -- 09
+    ∷ Some T.I64  -- 0A
+    ∷ Some T.String  -- 0B
+    ∷ Some T.Struct  -- 0C
+    ∷ Some T.Map  -- 0D
+    ∷ Some T.Set  -- 0E
+    ∷ Some T.List  -- 0F
+    ∷ Some T.Uuid  -- 10
     ∷ []
 
-abbrev pub type_of : ℕ → Typed
-type_of b = get_or types b TypeOf.Unknown
+abbrev pub type_of : ℕ → Option TType
+type_of b = get_or types b None
 
 -- a type that ends a struct's fields: the one of byte 00
 abbrev pub is_stop : TType → Bool
@@ -82,17 +78,17 @@ message_byte M.Exception = 3
 message_byte M.OneWay = 4
 
 -- what each byte is read as, from 0 on
-abbrev pub messages : List Messaged
+abbrev pub messages : List (Option TMessageType)
 messages =
-    MessageOf.Unknown  -- 0
-    ∷ MessageOf.Known M.Call  -- 1
-    ∷ MessageOf.Known M.Reply  -- 2
-    ∷ MessageOf.Known M.Exception  -- 3
-    ∷ MessageOf.Known M.OneWay  -- 4
+    None  -- 0
+    ∷ Some M.Call  -- 1
+    ∷ Some M.Reply  -- 2
+    ∷ Some M.Exception  -- 3
+    ∷ Some M.OneWay  -- 4
     ∷ []
 
-abbrev pub message_of : ℕ → Messaged
-message_of b = get_or messages b MessageOf.Unknown
+abbrev pub message_of : ℕ → Option TMessageType
+message_of b = get_or messages b None
 
 -- rule 9's least sizes, as the crate counts them
 abbrev pub least_size : TType → ℕ

@@ -4,9 +4,10 @@
 pub mod shape;
 
 ghost use Rattle.std.specs.Prelude.{◌≡◌};
+ghost use Rattle.std.specs.Result.{result_ok};
 ghost use Rattle.codes.specs.Codes.{type_byte, type_of, is_stop, message_byte, message_of, least_size};
 
-#[derive(Clone, Copy)]
+#[derive(Clone, Copy, Debug, PartialEq, Eq)]
 pub enum TType {
     Stop,
     Void,
@@ -25,7 +26,7 @@ pub enum TType {
     Uuid,
 }
 
-#[derive(Clone, Copy)]
+#[derive(Clone, Copy, Debug, PartialEq, Eq)]
 pub enum TMessageType {
     Call,
     Reply,
@@ -39,47 +40,45 @@ impl TType {
     pub fn is_stop(self) -> bool
         ensures { result ≡ is_stop self }
     {
-        field_type_to_u8(self) == 0
+        self == TType::Stop
     }
-}
-
-// What a type byte, or a message type byte, stands for.
-#[derive(Clone, Copy)]
-pub enum Typed {
-    Known(TType),
-    Unknown,
-}
-
-#[derive(Clone, Copy)]
-pub enum Messaged {
-    Known(TMessageType),
-    Unknown,
 }
 
 // The byte that a message type is written as. Refuses nothing.
 // Call gives 01; OneWay gives 04.
-pub fn message_type_to_u8(message_type: TMessageType) -> u8
-    ensures { result ≡ message_byte message_type }
-{
-    match message_type {
-        TMessageType::Call => 0x01,
-        TMessageType::Reply => 0x02,
-        TMessageType::Exception => 0x03,
-        TMessageType::OneWay => 0x04,
+impl From<TMessageType> for u8 {
+    ghost from_gives = { λ message_type b. b ≡ message_byte message_type };
+
+    fn from(message_type: TMessageType) -> u8 {
+        match message_type {
+            TMessageType::Call => 0x01,
+            TMessageType::Reply => 0x02,
+            TMessageType::Exception => 0x03,
+            TMessageType::OneWay => 0x04,
+        }
     }
 }
 
-// The message type that a byte stands for, or Unknown, for which a read refuses 4. Refuses nothing.
-// 01 gives Call; 05 gives Unknown.
-pub fn message_type_from_u8(b: u8) -> Messaged
-    ensures { result ≡ message_of b }
-{
-    match b {
-        0x01 => Messaged::Known(TMessageType::Call),
-        0x02 => Messaged::Known(TMessageType::Reply),
-        0x03 => Messaged::Known(TMessageType::Exception),
-        0x04 => Messaged::Known(TMessageType::OneWay),
-        _ => Messaged::Unknown,
+// What a byte that stands for no message type gives, for which a read refuses 4.
+#[derive(Clone, Copy, Debug, PartialEq, Eq)]
+pub struct NoMessageType;
+
+// The message type that a byte stands for. Refuses nothing itself.
+// 01 gives Call; 05 gives NoMessageType.
+impl TryFrom<u8> for TMessageType {
+    type Error = NoMessageType;
+
+    ghost try_from_gives = { λ b r. result_ok r ≡ message_of b };
+
+    #[tactic(auto, using(crate::proofs::Tables::missed))]
+    fn try_from(b: u8) -> Result<TMessageType, NoMessageType> {
+        match b {
+            0x01 => Ok(TMessageType::Call),
+            0x02 => Ok(TMessageType::Reply),
+            0x03 => Ok(TMessageType::Exception),
+            0x04 => Ok(TMessageType::OneWay),
+            _ => Err(NoMessageType),
+        }
     }
 }
 
@@ -107,27 +106,28 @@ pub fn field_type_to_u8(field_type: TType) -> u8
     }
 }
 
-// The type that a byte stands for, or Unknown, for which a read refuses 5. Refuses nothing.
-// 0C gives Struct and 0B String; 05 gives Unknown.
-pub fn field_type_from_u8(b: u8) -> Typed
+// The type that a byte stands for, or None, for which a read refuses 5. Refuses nothing.
+// 0C gives Struct and 0B String; 05 gives None.
+#[tactic(auto, using(crate::proofs::Tables::missed))]
+pub fn field_type_from_u8(b: u8) -> Option<TType>
     ensures { result ≡ type_of b }
 {
     match b {
-        0x00 => Typed::Known(TType::Stop),
-        0x01 => Typed::Known(TType::Void),
-        0x02 => Typed::Known(TType::Bool),
-        0x03 => Typed::Known(TType::I08),
-        0x04 => Typed::Known(TType::Double),
-        0x06 => Typed::Known(TType::I16),
-        0x08 => Typed::Known(TType::I32),
-        0x0A => Typed::Known(TType::I64),
-        0x0B => Typed::Known(TType::String),
-        0x0C => Typed::Known(TType::Struct),
-        0x0D => Typed::Known(TType::Map),
-        0x0E => Typed::Known(TType::Set),
-        0x0F => Typed::Known(TType::List),
-        0x10 => Typed::Known(TType::Uuid),
-        _ => Typed::Unknown,
+        0x00 => Some(TType::Stop),
+        0x01 => Some(TType::Void),
+        0x02 => Some(TType::Bool),
+        0x03 => Some(TType::I08),
+        0x04 => Some(TType::Double),
+        0x06 => Some(TType::I16),
+        0x08 => Some(TType::I32),
+        0x0A => Some(TType::I64),
+        0x0B => Some(TType::String),
+        0x0C => Some(TType::Struct),
+        0x0D => Some(TType::Map),
+        0x0E => Some(TType::Set),
+        0x0F => Some(TType::List),
+        0x10 => Some(TType::Uuid),
+        _ => None,
     }
 }
 

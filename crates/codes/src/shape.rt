@@ -4,7 +4,7 @@ ghost use Rattle.codes.specs.Shapes.{shape_of};
 
 use crate::TType;
 
-#[derive(Clone, Copy)]
+#[derive(Clone, Copy, Debug, PartialEq, Eq)]
 pub enum Shape {
     // So many bytes: a scalar or a UUID.
     Fixed(usize),

@@ -1,25 +1,22 @@
 -- The limits record of document 01: its tests, its defaults, its building, limits as numbers, and when one record leaves more room than another.
-use Rattle.std.specs.Prelude.{ℕ, ◌≤◌, Bool, false, cond, eqb, ltb, leb}
+use Rattle.std.specs.Prelude.{ℕ, ◌≤◌, Bool, false, cond, eqb, ltb, leb, Option, Some, None, Result, Ok, Err}
 use Rattle.wire.specs.Answer.{Answer, gives, refuse_if}
 use Rattle.wire.specs.Refusals.{told_refusal}
-use Rattle.config.specs.declared.limit.Limit.{Limit}
-use Rattle.config.specs.declared.limit.Limit.TheVariants.{Absent, AtMost}
+use Rattle.wire.specs.declared.refusal.Refusal.{Refusal}
 use Rattle.config.specs.declared.configuration.TConfiguration.{TConfiguration}
-use Rattle.config.specs.declared.configuration.Built.{Built}
-use Rattle.config.specs.declared.configuration.Built.TheVariants as B
 
 -- "sizes equal to their limit pass; an absent limit refuses nothing"
-abbrev pub above : ℕ → Limit → Bool
-above n Absent = false
-above n (AtMost m) = ltb m n
+abbrev pub above : ℕ → Option ℕ → Bool
+above n None = false
+above n (Some m) = ltb m n
 
 -- "A struct begin is refused (11) at depth at or above the limit"
-abbrev pub reached : ℕ → Limit → Bool
-reached n Absent = false
-reached n (AtMost m) = leb m n
+abbrev pub reached : ℕ → Option ℕ → Bool
+reached n None = false
+reached n (Some m) = leb m n
 
 -- the record, in 01's order: message, frame, struct depth, container, string
-abbrev pub limits : Limit → Limit → Limit → Limit → Limit → TConfiguration
+abbrev pub limits : Option ℕ → Option ℕ → Option ℕ → Option ℕ → Option ℕ → TConfiguration
 limits message frame depth container string =
     record {
       max_message_size = message;
@@ -30,36 +27,36 @@ limits message frame depth container string =
     }
 
 abbrev pub default_limits : TConfiguration
-default_limits = limits (AtMost 104857600) (AtMost 16384000) (AtMost 64) Absent (AtMost 104857600)
+default_limits = limits (Some 104857600) (Some 16384000) (Some 64) None (Some 104857600)
 
 abbrev pub no_limits : TConfiguration
-no_limits = limits Absent Absent Absent Absent Absent
+no_limits = limits None None None None None
 
 -- limits that a caller passes as numbers: the greatest of 64 bits stands for "absent"
 abbrev pub no_limit : ℕ
 no_limit = 18446744073709551615
 
-abbrev pub limit_of : ℕ → Limit
-limit_of n = cond (eqb n no_limit) Absent (AtMost n)
+abbrev pub limit_of : ℕ → Option ℕ
+limit_of n = cond (eqb n no_limit) None (Some n)
 
 abbrev pub limits_of : ℕ → ℕ → ℕ → ℕ → ℕ → TConfiguration
 limits_of message frame structs container string = limits (limit_of message) (limit_of frame) (limit_of structs) (limit_of container) (limit_of string)
 
 -- "both frame and message limits are present and frame is greater"
-abbrev pub frame_above : Limit → Limit → Bool
-frame_above Absent message = false
-frame_above (AtMost frame) message = above frame message
+abbrev pub frame_above : Option ℕ → Option ℕ → Bool
+frame_above None message = false
+frame_above (Some frame) message = above frame message
 
 -- building refuses 19 at 0, or hands the record on; no byte is passed, so the place after it is 0
 unfoldable pub built_from : TConfiguration → Answer TConfiguration
 built_from c = refuse_if (frame_above c.max_frame_size c.max_message_size) 19 0 (gives c 0)
 
-abbrev pub told_built : Built → Answer TConfiguration
-told_built (B.Limits c) = gives c 0
-told_built (B.Refused x) = told_refusal x
+abbrev pub told_built : Result TConfiguration Refusal → Answer TConfiguration
+told_built (Ok c) = gives c 0
+told_built (Err x) = told_refusal x
 
 -- a limit that was kept, raised or removed
-abbrev pub Raised : Limit → Limit → Type 0
-Raised old Absent = Unit
-Raised Absent (AtMost new) = ⊥
-Raised (AtMost old) (AtMost new) = old ≤ new
+abbrev pub Raised : Option ℕ → Option ℕ → Type 0
+Raised old None = Unit
+Raised None (Some new) = ⊥
+Raised (Some old) (Some new) = old ≤ new

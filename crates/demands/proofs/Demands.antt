@@ -1,4 +1,5 @@
 -- The claim, from the theorems that stand in the crates. Assumes nothing.
+use Rattle.std.specs.Prelude.{Result}
 use Prim.Native.Nat.{ℕ, ◌<◌, ◌≤◌}
 use mathlib.Core.Path.{◌≡◌, refl, sym, ap, ◌∙◌}
 use mathlib.Core.Bool.{Bool, true, false}
@@ -8,28 +9,23 @@ use borrow.Author.Tests.{lt-ltb}
 use lib.Dec.{ltb}
 use lib.ListN.{length, drop, length-append}
 use lib.Seq.{drop_at}
+use Rattle.wire.specs.declared.refusal.Refusal.{Refusal}
+use Rattle.wire.specs.declared.cursor.Cursor.{Cursor}
 use Rattle.wire.specs.Answer.{Answer, gives, refused, mapped}
 use Rattle.wire.specs.Refusals.{kind_number}
 use Rattle.wire.specs.Writes.{left, Wrote}
-use Rattle.wire.specs.declared.cursor.Moved.{Moved}
 use Rattle.wire.specs.declared.refusal.Kind.{Kind}
 use Rattle.wire.specs.declared.refusal.Kind.TheVariants as K
 use Rattle.wire.proofs.Refusals.{kind_of, kind_of-number}
-use Rattle.wire.proofs.Unique.{moved_settled}
+use Rattle.wire.proofs.Unique.{told_settled, moved_settled}
 use Rattle.wire.proofs.Writes.{wrote_settled}
 use Rattle.config.specs.declared.configuration.TConfiguration.{TConfiguration}
 use Rattle.config.proofs.Building.{built_settled}
-use Rattle.nesting.proofs.Structs.{depth_settled}
-use Rattle.number.proofs.Settled.{byte_settled, bool_settled, i8_settled, i16_settled, i32_settled, i64_settled, double_settled}
 use Rattle.number.specs.BigEndian.{bytes_of}
 use Rattle.number.proofs.Widths.{length-bytes_of}
-use Rattle.text.proofs.Settled.{size_settled, text_settled}
-use Rattle.read.proofs.Settled.{type_settled, field_settled, list_settled, set_settled, map_settled}
-use Rattle.scalar.proofs.Settled.{scalar_settled}
 use Rattle.scalar.specs.Scalars.{scalar_at}
 use Rattle.scalar.specs.declared.Scalar.{Scalar}
 use Rattle.scalar.specs.declared.Scalar.TheVariants as Sc
-use Rattle.message.proofs.Settled.{message_settled, message_type_settled}
 use Rattle.leaf.proofs.Leaves.{walked_settled}
 use Rattle.skip.proofs.Counted.{accepted_count, refused_count}
 use Rattle.skip_value.proofs.Settled.{value_settled}
@@ -38,7 +34,6 @@ use Rattle.skip.proofs.MoreRoom as more_room
 use Rattle.write.proofs.ReadsBack as values
 use Rattle.write_headers.proofs.ReadsBack as headers
 use Rattle.write_message.proofs.ReadsBack as messages
-use Rattle.framed.proofs.Frames.{frame_settled}
 use Rattle.framed.proofs.ReadsBack as frames
 use Rattle.host.specs.Host.{row_of, ByLength, Hosted}
 use Rattle.host.proofs.Rows.{hosted_settled}
@@ -70,7 +65,7 @@ numbered K.FrameLimit = (omega arith, omega arith)
 numbered K.FrameAboveMessage = (omega arith, omega arith)
 numbered K.DepthBeyond = (omega arith, omega arith)
 
-untouched : (r : Moved) (new old : List ℕ) (write : Answer (List ℕ)) (n p : ℕ) → Wrote r new old write → refused n p ≡ write → new ≡ old
+untouched : (r : Result Cursor Refusal) (new old : List ℕ) (write : Answer (List ℕ)) (n p : ℕ) → Wrote r new old write → refused n p ≡ write → new ≡ old
 unfolding left
 untouched r new old write n p w e = w.buffer ∙ rw (← e)
 
@@ -133,21 +128,7 @@ module _ (out : List ℕ) (at : ℕ) (new : List ℕ) (next : ℕ) where
 one_answer : OneAnswer
 one_answer =
     record {
-      numbers = (
-        λ a b e. byte_settled e refl,
-        λ a b e. bool_settled e refl,
-        λ a b e. i8_settled e refl,
-        λ a b e. i16_settled e refl,
-        λ a b e. i32_settled e refl,
-        λ a b e. i64_settled e refl,
-        λ a b e. double_settled e refl,
-      );
-      texts = (λ a b e. size_settled e refl, λ a b e. text_settled e refl);
-      headers = (λ a b e. type_settled e refl, λ a b e. field_settled e refl, λ a b e. list_settled e refl, λ a b e. set_settled e refl, λ a b e. map_settled e refl);
-      scalars = λ a b e. scalar_settled e refl;
-      messages = (λ a b e. message_settled e refl, λ a b e. message_type_settled e refl);
-      frames = λ a b e. frame_settled e refl;
-      depths = λ a b e. depth_settled e refl;
+      reads = λ A a b e. told_settled e refl;
       moves = λ a b e. moved_settled e refl;
       limits = λ a b e. built_settled e refl;
       leaves = λ a b e. walked_settled e refl;

@@ -1,4 +1,5 @@
 -- Demand 3 at concrete bytes, so that neither of its halves is empty: a list that stays accepted, and a refusal that stays. Assumes nothing.
+use Rattle.std.specs.Prelude.{None, Some, Result}
 use Prim.Native.Nat.{ℕ, ◌<◌}
 use mathlib.Core.Path.{◌≡◌, refl}
 use mathlib.Core.List.{List, [], ◌∷◌, ◌++◌}
@@ -9,7 +10,6 @@ use Rattle.codes.proofs.Tables.{Each, entry}
 use Rattle.codes.specs.declared.TType.TheVariants as T
 use Rattle.config.specs.Limits.{limits}
 use Rattle.config.specs.declared.configuration.TConfiguration.{TConfiguration}
-use Rattle.config.specs.declared.limit.Limit.TheVariants.{Absent, AtMost}
 use Rattle.number.specs.BigEndian.{big}
 use Rattle.number.specs.Reads.{number_at}
 use Rattle.number.proofs.Widths.{Octets}
@@ -22,6 +22,7 @@ use Rattle.tree.proofs.Steps as steps
 use Rattle.binary.specs.Binary.{binary}
 use Rattle.binary.proofs.Binary.{binary_reads}
 use Rattle.skip.specs.Skips.{told_skipped, SkipSays}
+use Rattle.leaf.specs.declared.Halt.{Halt}
 use Rattle.skip.specs.declared.till_depth.Skipped.{Skipped}
 use Rattle.demands.proofs.Demands.{demands}
 
@@ -30,11 +31,11 @@ octets s e i = entry (λ n b. b < 256) 0 s 0 e (λ n. omega arith) i
 
 -- the default limits, and so many elements in a container
 abbrev most : ℕ → TConfiguration
-most n = limits (AtMost 104857600) (AtMost 16384000) (AtMost 64) (AtMost n) (AtMost 104857600)
+most n = limits (Some 104857600) (Some 16384000) (Some 64) (Some n) (Some 104857600)
 
 -- the same number of elements, and next to no other limit
 abbrev wider : ℕ → TConfiguration
-wider n = limits Absent Absent (AtMost 100) (AtMost n) Absent
+wider n = limits None None (Some 100) (Some n) None
 
 -- a list of one list of two bools
 abbrev nested : List ℕ
@@ -71,7 +72,7 @@ inner_cut =
     (steps.own_refused binary binary_reads (most 1) nested 5 2 0 T.List items 8 6 (λ z. omega arith) refl refl)
 
 -- so it answers end 12 and count 4, and goes on doing so: depth 3 to 127, limits raised or removed, any bytes appended
-pub accepted_still : (x : List ℕ) (a b : Skipped) → SkipSays (most 2) nested 0 3 0 T.List a → SkipSays (wider 9) (nested ++ x) 0 127 0 T.List b → told_skipped b ≡ ended 12 4
+pub accepted_still : (x : List ℕ) (a b : Result Skipped Halt) → SkipSays (most 2) nested 0 3 0 T.List a → SkipSays (wider 9) (nested ++ x) 0 127 0 T.List b → told_skipped b ≡ ended 12 4
 unfolding refuse_if
 accepted_still x a b p q =
     (demands.stays (most 2) (wider 9) (record { message = tt; depth = omega arith; container = omega arith; string = tt }) nested x 0 3 127 0 T.List
@@ -79,7 +80,7 @@ accepted_still x a b p q =
     (skip_only binary binary_reads (most 2) nested 0 3 0 T.List (told_skipped a) (ended 12 4) p.answers outer)
 
 -- and 8 stays while its own limit is kept
-pub refused_still : (x : List ℕ) (a b : Skipped) → SkipSays (most 1) nested 0 3 0 T.List a → SkipSays (wider 1) (nested ++ x) 0 127 0 T.List b → told_skipped b ≡ cut_off 8 6 2
+pub refused_still : (x : List ℕ) (a b : Result Skipped Halt) → SkipSays (most 1) nested 0 3 0 T.List a → SkipSays (wider 1) (nested ++ x) 0 127 0 T.List b → told_skipped b ≡ cut_off 8 6 2
 unfolding refuse_if
 refused_still x a b p q =
     (demands.stays (most 1) (wider 1) (record { message = tt; depth = omega arith; container = omega arith; string = tt }) nested x 0 3 127 0 T.List

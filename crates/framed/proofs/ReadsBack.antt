@@ -1,4 +1,5 @@
 -- A frame that is written reads back, but for an empty payload, which writes nothing. Assumes nothing.
+use Rattle.std.specs.Prelude.{Option, Some}
 use Prim.Native.Nat.{ℕ, ◌<◌}
 use mathlib.Core.Path.{◌≡◌, ◌∙◌}
 use mathlib.Core.Bool.{false}
@@ -7,18 +8,17 @@ use native.Mathlib.Omega.{arith}
 use lib.ListN.{length}
 use Rattle.wire.specs.Answer.{gives}
 use Rattle.config.specs.Limits.{above}
-use Rattle.config.specs.declared.limit.Limit.{Limit}
 use Rattle.text.proofs.Layouts.{length-sized}
 use Rattle.text.specs.declared.Body.TheVariants as BodyOf
 use Rattle.tree.proofs.Parts.{part_length}
 use Rattle.write.specs.Found.{Finds}
 use Rattle.write.proofs.Outputs.{short, is_short}
 use Rattle.write.proofs.ReadsBack.{stands, sized_found}
-use Rattle.framed.specs.Frames.{frame, frame_at, frame_write}
+use Rattle.framed.specs.Frames.{frame_at, frame_write}
 use Rattle.framed.proofs.Frames.{a_frame, full}
 
-pub frame_back : (limit : Limit) (payload out : List ℕ) (at : ℕ) {new : List ℕ} {next : ℕ} → 0 < length payload
-    → above (length payload) limit ≡ false → gives new next ≡ frame_write payload out at → Finds frame new payload (frame_at limit new at) next
+pub frame_back : (limit : Option ℕ) (payload out : List ℕ) (at : ℕ) {new : List ℕ} {next : ℕ} → 0 < length payload
+    → above (length payload) limit ≡ false → gives new next ≡ frame_write payload out at → Finds Some new payload (frame_at limit new at) next
 frame_back limit payload out at some below e =
     let f = full payload at (λ z. omega arith) in
     let h = is_short payload at out (rw (← f) at e) in

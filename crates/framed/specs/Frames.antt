@@ -1,28 +1,23 @@
 -- Frames: what reading one answers, and the bytes of one that is written.
-use Rattle.std.specs.Prelude.{ℕ, cond, List, [], eqb, length}
+use Rattle.std.specs.Prelude.{ℕ, cond, List, [], eqb, length, Option, Some, None}
 use Rattle.wire.specs.Answer.{Answer, gives, refused, mapped}
 use Rattle.wire.specs.Writes.{Output, puts, write_at}
-use Rattle.config.specs.declared.limit.Limit.{Limit}
 use Rattle.text.specs.Texts.{span, sized_at}
 use Rattle.text.specs.declared.Span.{Span}
 use Rattle.text.specs.declared.Body.TheVariants as BodyOf
 use Rattle.write.specs.Outputs.{bytes_output}
 
--- a frame, by where its payload stands, or that no frame follows
-pub data Next : Type 0 where
-  frame : Span → Next
-  end : Next
-
--- "no byte left is End (added). Else header (1), 6, 18, body (1)": a size, then as many bytes
-unfoldable pub frame_at : Limit → List ℕ → ℕ → Answer Next
+-- "no byte left is End (added). Else header (1), 6, 18, body (1)": a size, then as many bytes. It gives where the payload stands, or that no
+-- frame follows
+unfoldable pub frame_at : Option ℕ → List ℕ → ℕ → Answer (Option Span)
 frame_at limit s at =
-    cond (eqb at (length s)) (gives end at)
-    (mapped frame (sized_at BodyOf.Frame limit s at))
+    cond (eqb at (length s)) (gives None at)
+    (mapped Some (sized_at BodyOf.Frame limit s at))
 
 -- the payload in what was read: at the end an empty one
-abbrev pub payload_of : Answer Next → Answer Span
-payload_of (gives (frame p) next) = gives p next
-payload_of (gives end next) = gives (span next next) next
+abbrev pub payload_of : Answer (Option Span) → Answer Span
+payload_of (gives (Some p) next) = gives p next
+payload_of (gives None next) = gives (span next next) next
 payload_of (refused n p) = refused n p
 
 -- "an empty payload writes nothing; else length and payload", with 16

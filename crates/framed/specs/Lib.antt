@@ -1,2 +1,1 @@
 pub mod Frames
-pub mod Told

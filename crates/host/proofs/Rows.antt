@@ -1,4 +1,5 @@
 -- What the calls answer, once the record's length and the entry are known; and that no two answers meet their promise. Assumes nothing.
+use Rattle.std.specs.Prelude.{None, Option, Some}
 use Prim.Native.Nat.{ℕ, ◌-◌, ◌<◌, ◌≤◌}
 use mathlib.Core.Path.{◌≡◌, refl, sym, ap, subst, ◌∙◌}
 use mathlib.Core.Bool.{Bool, true, false}
@@ -9,11 +10,10 @@ use native.Mathlib.Omega.{arith}
 use borrow.Rule.Slice.PartMut.{put_mid}
 use borrow.Author.Tests.{lt-ltb, le-ltb}
 use Rattle.wire.specs.Answer.{Answer, gives, refused}
+use Rattle.codes.specs.declared.TType.{TType}
 use Rattle.codes.specs.Codes.{type_of}
 use Rattle.wire.specs.Writes.{in_front}
 use Rattle.wire.proofs.Writes.{behind, unfronted}
-use Rattle.codes.specs.declared.Typed.{Typed}
-use Rattle.codes.specs.declared.Typed.TheVariants as TypeOf
 use Rattle.number.specs.BigEndian.{bytes_of}
 use Rattle.number.proofs.Widths.{length-bytes_of}
 use Rattle.config.specs.declared.configuration.TConfiguration.{TConfiguration}
@@ -28,17 +28,17 @@ unknown_as sd s at d m x e a = subst (λ (n : Answer Unit). AfterEntry n x (x �
 
 module _ (c : TConfiguration) (sd : ℕ) (s : List ℕ) (at d : ℕ) where
   -- any two outcomes that the promise admits are equal
-  host_only : (k : Typed) (x y : Outcome) → ByType c sd k s at d x → ByType c sd k s at d y → x ≡ y
-  host_only (TypeOf.Known t) x y a b = skip_only binary binary_reads c s at d sd t x y a b
-  host_only TypeOf.Unknown x y a b = go (skip_entry d sd s at) a b
+  host_only : (k : Option TType) (x y : Outcome) → ByType c sd k s at d x → ByType c sd k s at d y → x ≡ y
+  host_only (Some t) x y a b = skip_only binary binary_reads c s at d sd t x y a b
+  host_only None x y a b = go (skip_entry d sd s at) a b
     where
       go : (m : Answer Unit) → AfterEntry m x (x ≡ cut_off 5 at 0) → AfterEntry m y (y ≡ cut_off 5 at 0) → x ≡ y
       go (refused n p) a b = a ∙ sym b
       go (gives u q) a b = a ∙ sym b
 
   module _ (b : ℕ) where
-    pub by_type : (k : Typed) (x : Outcome) → type_of b ≡ k → ByType c sd k s at d x → HostAnswers c sd s at d b x
-    by_type k x e a = subst (λ (n : Typed). ByType c sd n s at d x) (sym e) a
+    pub by_type : (k : Option TType) (x : Outcome) → type_of b ≡ k → ByType c sd k s at d x → HostAnswers c sd s at d b x
+    by_type k x e a = subst (λ (n : Option TType). ByType c sd n s at d x) (sym e) a
 
     module _ (old : List ℕ) where
       pub too_small : length old < 24 → Hosted c sd s at d b old 15 old

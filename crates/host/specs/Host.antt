@@ -1,8 +1,7 @@
 -- What the two calls for C and Rust return, and what they leave in the record.
-use Rattle.std.specs.Prelude.{ℕ, ◌≡◌, Bool, true, false, List, ◌++◌, ltb, length, drop}
+use Rattle.std.specs.Prelude.{ℕ, ◌≡◌, Bool, true, false, List, ◌++◌, ltb, length, drop, None, Option, Some}
+use Rattle.codes.specs.declared.TType.{TType}
 use Rattle.codes.specs.Codes.{type_of}
-use Rattle.codes.specs.declared.Typed.{Typed}
-use Rattle.codes.specs.declared.Typed.TheVariants as TypeOf
 use Rattle.number.specs.BigEndian.{bytes_of}
 use Rattle.config.specs.Limits.{default_limits, no_limit, limits_of}
 use Rattle.config.specs.declared.configuration.TConfiguration.{TConfiguration}
@@ -24,9 +23,9 @@ abbrev pub NoType : ℕ → List ℕ → ℕ → ℕ → Outcome → Type 0
 NoType sd s at d x = AfterEntry (skip_entry d sd s at) x (x ≡ cut_off 5 at 0)
 
 -- under some limits and inside so many open structs: of these bytes from a place on, to a depth, a value of the type that a byte stands for
-abbrev pub ByType : TConfiguration → ℕ → Typed → List ℕ → ℕ → ℕ → Outcome → Type 0
-ByType c sd (TypeOf.Known t) s at d x = SkipAnswers binary c s at d sd t x
-ByType c sd TypeOf.Unknown s at d x = NoType sd s at d x
+abbrev pub ByType : TConfiguration → ℕ → Option TType → List ℕ → ℕ → ℕ → Outcome → Type 0
+ByType c sd (Some t) s at d x = SkipAnswers binary c s at d sd t x
+ByType c sd None s at d x = NoType sd s at d x
 
 abbrev pub HostAnswers : TConfiguration → ℕ → List ℕ → ℕ → ℕ → ℕ → Outcome → Type 0
 HostAnswers c sd s at d b x = ByType c sd (type_of b) s at d x

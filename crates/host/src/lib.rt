@@ -2,17 +2,15 @@
 #![tactic(auto)]
 
 ghost use Rattle.std.specs.Prelude.{◌≡◌, ◌≤◌, length};
-ghost use Rattle.wire.specs.Refusals.{kind_number};
-ghost use Rattle.tree.specs.Answers.{cut_off};
 ghost use Rattle.skip.specs.Skips.{told_skipped};
 ghost use Rattle.host.specs.Host.{row_of, filled, NoType, HostAnswers, Hosted, HostedByDefault, skip_limits};
 
-use codes::Typed;
 use config::configuration::TConfiguration;
-use config::limit::Limit;
-use skip::till_depth::Skipped;
+use config::limit;
+use leaf::Halt;
+use skip::till_depth::{Skipped, enter, skip_till_depth};
 use wire::cursor::Cursor;
-use wire::refusal::{Kind, Refusal};
+use wire::refusal::Kind;
 
 // What the record is set to: the refusal's number or 0, the end or the refusal's place, the count.
 #[derive(Clone, Copy)]
@@ -22,75 +20,58 @@ struct Row {
     count: u64,
 }
 
-fn row_of(skipped: Skipped) -> Row
-    ensures { result ≡ row_of (told_skipped skipped) }
-{
-    match skipped {
-        Skipped::Passed {
-            next,
-            struct_depth: _,
-            count,
-        } => Row {
-            number: 0,
-            place: next.at as u64,
-            count: count as u64,
-        },
-        Skipped::Refused { refusal, count } => {
-            let kind = refusal.kind;
-            Row {
-                number: kind.number() as u64,
-                place: refusal.place as u64,
-                count: count as u64,
-            }
+impl From<Result<Skipped, Halt>> for Row {
+    ghost from_gives = { λ skipped row. row ≡ row_of (told_skipped skipped) };
+
+    fn from(skipped: Result<Skipped, Halt>) -> Row {
+        match skipped {
+            Ok(passed) => Row {
+                number: 0,
+                place: passed.next.at as u64,
+                count: passed.count as u64,
+            },
+            Err(halt) => Row {
+                number: u8::from(halt.refusal.kind) as u64,
+                place: halt.refusal.place as u64,
+                count: halt.count as u64,
+            },
         }
     }
 }
 
 // An unknown type byte: the entry's refusals come before its own.
-fn unknown_type(bytes: &[u8], place: usize, depth: usize, struct_depth: usize) -> Skipped
-    ensures { NoType struct_depth bytes.now place depth (told_skipped result) }
+#[tactic(auto, using(crate::proofs::Rows::unknown_as))]
+fn unknown_type(
+    bytes: &[u8],
+    cursor: Cursor,
+    depth: usize,
+    struct_depth: usize,
+) -> Result<Skipped, Halt>
+    ensures { NoType struct_depth bytes.now cursor.at depth (told_skipped result) }
 {
-    if bytes.len() < place {
-        return refused(Kind::StartBeyond, place);
-    }
-    if 65_535 < struct_depth {
-        return refused(Kind::DepthBeyond, place);
-    }
-    if 127 < depth {
-        return refused(Kind::DepthBeyond, place);
-    }
-    refused(Kind::UnknownType, place)
+    let refusal = match enter(bytes, cursor, depth, struct_depth) {
+        Ok(_) => Kind::UnknownType.at(cursor.at),
+        Err(refusal) => refusal,
+    };
+    Err(Halt { refusal, count: 0 })
 }
 
-fn refused(kind: Kind, place: usize) -> Skipped
-    ensures { told_skipped result ≡ cut_off (kind_number kind) place 0 }
-{
-    Skipped::Refused {
-        refusal: Refusal { kind, place },
-        count: 0,
-    }
-}
-
+#[tactic(auto, using(crate::proofs::Rows::by_type))]
 fn skip_by_byte(
     bytes: &[u8],
-    place: usize,
+    cursor: Cursor,
     depth: usize,
     type_byte: u8,
     struct_depth: usize,
     limits: TConfiguration,
-) -> Skipped
-    ensures { HostAnswers limits struct_depth bytes.now place depth type_byte (told_skipped result) }
+) -> Result<Skipped, Halt>
+    ensures { HostAnswers limits struct_depth bytes.now cursor.at depth type_byte (told_skipped result) }
 {
     match codes::field_type_from_u8(type_byte) {
-        Typed::Known(field_type) => skip::till_depth::skip_till_depth(
-            bytes,
-            Cursor { at: place },
-            field_type,
-            depth,
-            struct_depth,
-            limits,
-        ),
-        Typed::Unknown => unknown_type(bytes, place, depth, struct_depth),
+        Some(field_type) => {
+            skip_till_depth(bytes, cursor, field_type, depth, struct_depth, limits)
+        }
+        None => unknown_type(bytes, cursor, depth, struct_depth),
     }
 }
 
@@ -104,6 +85,7 @@ fn fill(kept: &mut [u8], row: Row)
 }
 
 // Returns 15 where the record has fewer than 24 bytes, and else 0 with the record's first 24 bytes set.
+#[tactic(auto, using(crate::proofs::Rows::too_small))]
 fn answer(
     bytes: &[u8],
     place: usize,
@@ -118,10 +100,9 @@ fn answer(
     if kept.len() < 24 {
         return 15;
     }
-    fill(
-        kept,
-        row_of(skip_by_byte(bytes, place, depth, type_byte, struct_depth, limits)),
-    );
+    let cursor = Cursor { at: place };
+    let skipped = skip_by_byte(bytes, cursor, depth, type_byte, struct_depth, limits);
+    fill(kept, skipped.into());
     0
 }
 
@@ -160,6 +141,6 @@ pub fn thrift_skip_within(
 ) -> u32
     ensures { Hosted (skip_limits message structs container string) struct_depth bytes.now place depth type_byte kept.old result kept.new }
 {
-    let limits = TConfiguration::from_numbers(message, Limit::NO_LIMIT, structs, container, string);
+    let limits = TConfiguration::from_numbers(message, limit::NO_LIMIT, structs, container, string);
     answer(bytes, place, depth, type_byte, struct_depth, limits, kept)
 }

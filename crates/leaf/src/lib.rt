@@ -9,15 +9,34 @@ ghost use Rattle.tree.specs.Answers.{leaf_outcome, cut_off};
 ghost use Rattle.leaf.specs.Told.{told_walked};
 
 use config::configuration::TConfiguration;
-use text::{Body, SizeRead};
-use wire::cursor::{Cursor, Moved};
+use text::Body;
+use wire::cursor::Cursor;
 use wire::refusal::{Kind, Refusal};
 
-// The cursor past a value and the values in it, or the refusal and the values begun.
-#[derive(Clone, Copy)]
-pub enum Walked {
-    Passed(Cursor, usize),
-    Refused(Refusal, usize),
+// The cursor past a value, and the values in it.
+#[derive(Clone, Copy, Debug, PartialEq, Eq)]
+pub struct Passed {
+    pub next: Cursor,
+    pub count: usize,
+}
+
+// A refusal, and the values begun.
+#[derive(Clone, Copy, Debug, PartialEq, Eq)]
+pub struct Halt {
+    pub refusal: Refusal,
+    pub count: usize,
+}
+
+// What passing a value comes to.
+pub type Walked = Result<Passed, Halt>;
+
+// The refusal of a value that was begun, with none in it.
+impl From<Refusal> for Halt {
+    ghost from_gives = { λ refusal halt. halt ≡ record { refusal = refusal; count = 1 } };
+
+    fn from(refusal: Refusal) -> Halt {
+        Halt { refusal, count: 1 }
+    }
 }
 
 // The refusal of a value that was begun, so with a count of 1. Refuses always, by the kind given.
@@ -25,7 +44,7 @@ pub enum Walked {
 pub fn refused(kind: Kind, place: usize) -> Walked
     ensures { told_walked result ≡ cut_off (kind_number kind) place 1 }
 {
-    Walked::Refused(Refusal { kind, place }, 1)
+    Err(kind.at(place).into())
 }
 
 // A value of so many bytes, passed: it counts as one. Refuses 2, 1, with count 1.
@@ -33,10 +52,8 @@ pub fn refused(kind: Kind, place: usize) -> Walked
 pub fn skip_fixed(bytes: &[u8], cursor: Cursor, width: usize) -> Walked
     ensures { told_walked result ≡ leaf_outcome (within bytes.now cursor.at width) }
 {
-    match cursor.past(bytes, width) {
-        Moved::To(next) => Walked::Passed(next, 1),
-        Moved::Refused(refusal) => Walked::Refused(refusal, 1),
-    }
+    let next = cursor.past(bytes, width)?;
+    Ok(Passed { next, count: 1 })
 }
 
 // A text, passed with no check of UTF-8: it counts as one. Refuses 2, 1, 6, 7, then 1 for the body, with count 1.
@@ -44,9 +61,6 @@ pub fn skip_fixed(bytes: &[u8], cursor: Cursor, width: usize) -> Walked
 pub fn skip_text(bytes: &[u8], cursor: Cursor, config: TConfiguration) -> Walked
     ensures { told_walked result ≡ leaf_outcome (judged (bytes_at config.max_string_size bytes.now cursor.at)) }
 {
-    let limit = config.max_string_size;
-    match text::read_limited(bytes, cursor, limit, Body::Text) {
-        SizeRead::Value(size, body) => skip_fixed(bytes, body, size),
-        SizeRead::Refused(refusal) => Walked::Refused(refusal, 1),
-    }
+    let (_, next) = text::read_bytes(bytes, cursor, config)?;
+    Ok(Passed { next, count: 1 })
 }

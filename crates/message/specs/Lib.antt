@@ -1,3 +1,2 @@
 pub mod Layouts
 pub mod Messages
-pub mod Told

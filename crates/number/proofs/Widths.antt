@@ -1,29 +1,24 @@
 -- Big-endian numbers at any width: the number of the bytes, the bytes of the number, and reading at a cursor. Assumes nothing.
 use mathlib.Core.Path.{◌≡◌, refl, sym, ◌∙◌, ap}
 use mathlib.Core.List.{List, [], ◌∷◌, ◌++◌}
-use Prim.Native.Nat.{ℕ, zero, suc, ◌+◌, ◌*◌, ◌/◌, ◌%◌, ◌^◌, ◌<◌, ◌≤◌}
-use native.Mathlib.Nat.{mod-eq_of_lt, mod-lt, mod-one, pow-suc, pow-zero, add-zero, add_assoc, mul_assoc}
+use Prim.Native.Nat.{ℕ, zero, suc, ◌+◌, ◌-◌, ◌*◌, ◌/◌, ◌%◌, ◌^◌, ◌<◌, ◌≤◌}
+use native.Mathlib.Nat.{div-one, div-div-eq-div-mul, mul_comm, mod-eq_of_lt, mod-lt, mod-one, pow-suc, pow-zero, mul_assoc}
 use native.Mathlib.Numerals.{add-one}
 use native.Mathlib.Omega.{arith}
 use lib.Arith.{mod-mul, digits_div, digits_mod}
 use lib.Dec.{lit<}
 use lib.IntN.{ℤ}
-use mir.Syntax.{Width}
+use mir.Syntax.{Width, w16, w32, w64}
 use mir.Val.{SFits, bits, to_z, of_z}
 use mir.Facts.{Fits-of_z, to_z-of_z}
-use lib.ListN.{length, get_or, take, drop, length-append, length-drop}
-use lib.Seq.{take-suc, get_or-drop}
-use Rattle.wire.specs.Answer.{gives, and_then, within, item_at}
-use Rattle.wire.specs.Refusals.{told_moved, told_refusal}
-use Rattle.wire.specs.declared.cursor.Cursor.{Cursor}
-use Rattle.wire.specs.declared.cursor.Moved.{Moved}
-use Rattle.wire.specs.declared.cursor.Moved.TheVariants as M
-use Rattle.wire.specs.declared.refusal.Refusal.{Refusal}
-use Rattle.wire.proofs.Answers.{first_fault}
-use Rattle.wire.proofs.Within.{inside}
-use Rattle.number.specs.BigEndian.{big, bytes_of}
-use Rattle.number.specs.Sums.{sum_at}
+use lib.ListN.{length, get_or, take, drop, length-append, length-take, length-drop}
+use lib.Seq.{take_all, take-suc, get_or-drop}
+use Rattle.std.specs.Int.{byte_worth, sum_through, byte_at, bytes_high_first, from_be_bytes}
+use Rattle.wire.specs.Answer.{Answer, gives, refused, and_then, within, item_at}
+use Rattle.wire.proofs.Answers.{first_fault, went}
+use Rattle.wire.proofs.Within.{inside, item_there}
 use Rattle.number.specs.Reads.{number_at}
+use Rattle.number.specs.BigEndian.{big, bytes_of}
 
 -- one byte more at the end
 big-snoc : (bs : List ℕ) (b : ℕ) → big (bs ++ b ∷ []) ≡ big bs * 256 + b
@@ -32,27 +27,47 @@ big-snoc [] b = rw (pow-zero 256) (omega arith)
 big-snoc (a ∷ bs) b =
     rw (big-snoc bs b, length-append bs (b ∷ []), add-one, pow-suc 256 (length bs), ← mul_assoc a (256 ^ length bs) 256) (omega arith)
 
-sum-suc : (w : ℕ) (s : List ℕ) (at : ℕ) → sum_at (suc w) s at ≡ sum_at w s at * 256 + get_or s (at + w) 0
-sum-suc zero s at = rw add-zero (omega arith)
-sum-suc (suc w) s at = refl
+-- what the library's `from_be_bytes` makes of the first bytes, each worth a power of 256
+worth : (i b : ℕ) → byte_worth i b ≡ b * 256 ^ i
+worth zero b = rw (pow-zero 256) (omega arith)
+worth (suc i) b = refl
 
--- the bytes at a place stand for their sum
-pub big-sum : (w : ℕ) (s : List ℕ) (at : ℕ) → at + w ≤ length s → big (take w (drop at s)) ≡ sum_at w s at
+front-big : (k j : ℕ) (bs : List ℕ) → j ≤ k → length bs ≡ suc k
+    → sum_through (λ i. byte_worth (k - i) (get_or bs i 0)) j ≡ big (take (suc j) bs) * 256 ^ (k - j)
 unfolding big
-big-sum zero s at h = refl
-big-sum (suc w) s at h =
+front-big k zero bs h e = rw (take-suc bs 0 0 (omega (arith, e)), worth (k - 0) (get_or bs 0 0), pow-zero 256) (omega arith)
+front-big k (suc j) bs h e =
+    let b = get_or bs (suc j) 0 in
+    let less : k - j ≡ suc (k - suc j) = omega arith in
     rw (
-      take-suc (drop at s) w 0 (rw (length-drop at s) (omega arith)),
-      big-snoc (take w (drop at s)) (get_or (drop at s) w 0),
-      big-sum w s at (omega arith),
-      get_or-drop at s w 0,
-      sum-suc w s at,
-    )
+      front-big k j bs (omega arith) e,
+      worth (k - suc j) b,
+      take-suc bs (suc j) 0 (omega (arith, e)),
+      big-snoc (take (suc j) bs) b,
+      less,
+      pow-suc 256 (k - suc j),
+    ) (grind arith)
 
 pub length-bytes_of : (w n : ℕ) → length (bytes_of w n) ≡ w
 unfolding bytes_of
 length-bytes_of zero n = refl
 length-bytes_of (suc w) n = length-append (bytes_of w (n / 256)) (n % 256 ∷ []) ∙ rw (length-bytes_of w (n / 256), add-one)
+
+-- what the library's `to_be_bytes` writes
+byte_of : (k n : ℕ) → byte_at k n ≡ n / 256 ^ k % 256
+byte_of zero n = rw (pow-zero 256, div-one)
+byte_of (suc k) n = refl
+
+high_first-snoc : (w n : ℕ) → bytes_high_first (suc w) n ≡ bytes_high_first w (n / 256) ++ (n % 256 ∷ [])
+high_first-snoc zero n = refl
+high_first-snoc (suc w) n =
+    let up : byte_at (suc w) n ≡ byte_at w (n / 256) = byte_of (suc w) n ∙ rw (pow-suc 256 w, mul_comm (256 ^ w) 256, ← div-div-eq-div-mul n 256 (256 ^ w)) refl ∙ sym (byte_of w (n / 256)) in
+    ap (λ (b : ℕ). b ∷ bytes_high_first (suc w) n) up ∙ ap (λ (l : List ℕ). byte_at w (n / 256) ∷ l) (high_first-snoc w n)
+
+pub high_first : (w n : ℕ) → bytes_high_first w n ≡ bytes_of w n
+unfolding bytes_of
+high_first zero n = refl
+high_first (suc w) n = high_first-snoc w n ∙ ap (λ (l : List ℕ). l ++ (n % 256 ∷ [])) (high_first w (n / 256))
 
 -- a byte's one byte is itself
 pub one_byte : (b : ℕ) → b < 256 → bytes_of 1 b ≡ b ∷ []
@@ -107,23 +122,63 @@ read_written (suc w) s at o h =
       read_written w s at o (omega arith),
     )
 
--- a byte counted from the second half's place
-pub byte_from : (s : List ℕ) (at half i : ℕ) → get_or s (at + half + i) 0 ≡ get_or s (at + (half + i)) 0
-byte_from s at half i = ap (λ (j : ℕ). get_or s j 0) (add_assoc at half i)
+-- what the library's `from_be_bytes` makes of all bytes is their number
+of_all : (k : ℕ) (bs : List ℕ) → length bs ≡ suc k → sum_through (λ i. byte_worth (k - i) (get_or bs i 0)) k ≡ big bs
+of_all k bs e =
+    let whole : take (suc k) bs ≡ bs = take_all (suc k) bs (omega (arith, e)) in
+    let last : k - k ≡ 0 = omega arith in
+    front-big k k bs (omega arith) e ∙ rw (whole, last, pow-zero 256) (omega arith)
 
--- a number that is read: the two ways out of every read of this crate
+-- an item has as many bytes as it should
+pub item_length : (s : List ℕ) (at w : ℕ) {bs : List ℕ} {p : ℕ} → gives bs p ≡ item_at s at w → length bs ≡ w
+unfolding item_at
+item_length s at w {bs} e =
+    let i = went (within s at w) (λ _ next. gives (take w (drop at s)) next) e in
+    let room : at + w ≤ length s = (inside s at w i.gave).room in
+    let same : bs ≡ take w (drop at s) = cc i.on in
+    rw (same, length-take, length-drop) (omega arith)
+
+-- the number of an item of one byte, of two, of four, of eight
+module _ (s : List ℕ) (at : ℕ) {bs : List ℕ} {p : ℕ} where
+  pub byte : gives bs p ≡ item_at s at 1 → get_or bs 0 0 ≡ big bs
+  byte e = of_all 0 bs (item_length s at 1 e)
+
+  pub two : gives bs p ≡ item_at s at 2 → from_be_bytes w16 bs ≡ big bs
+  two e = of_all 1 bs (item_length s at 2 e)
+
+  pub four : gives bs p ≡ item_at s at 4 → from_be_bytes w32 bs ≡ big bs
+  four e = of_all 3 bs (item_length s at 4 e)
+
+  pub eight : gives bs p ≡ item_at s at 8 → from_be_bytes w64 bs ≡ big bs
+  eight e = of_all 7 bs (item_length s at 8 e)
+
+-- a number that is read, from its item
 module _ {A : Type 0} (w : ℕ) (f : ℕ → A) (s : List ℕ) (at : ℕ) where
-  item_there : {m : Moved} {c : Cursor} → m ≡ M.To c → told_moved m ≡ within s at w → gives tt c.at ≡ within s at w
-  item_there e t = sym (ap told_moved e) ∙ t
+  pub no_number : {n p : ℕ} → refused n p ≡ item_at s at w → refused n p ≡ number_at w f s at
+  unfolding number_at
+  no_number e = first_fault _ e
 
-  pub fits : {m : Moved} {c : Cursor} → m ≡ M.To c → told_moved m ≡ within s at w → at + w ≤ length s
-  fits e t = (inside s at w (item_there e t)).room
+  pub number : {bs : List ℕ} {p : ℕ} {v : A} → gives bs p ≡ item_at s at w → v ≡ f (big bs) → gives v p ≡ number_at w f s at
+  unfolding number_at and_then
+  number e h = rw (h, ← e)
 
-  pub read : {m : Moved} {c : Cursor} {v : A} → m ≡ M.To c → told_moved m ≡ within s at w → v ≡ f (sum_at w s at)
-      → gives v c.at ≡ number_at w f s at
-  unfolding number_at item_at and_then
-  read {m} {c} {v} e t h = rw (h, ← big-sum w s at (fits e t), ← item_there e t)
+  pub read : {p : ℕ} {v : A} → gives tt p ≡ within s at w → v ≡ f (big (take w (drop at s))) → gives v p ≡ number_at w f s at
+  read e h = number (item_there s at w e refl) h
 
-  pub refuses : {m : Moved} {x : Refusal} → m ≡ M.Refused x → told_moved m ≡ within s at w → told_refusal x ≡ number_at w f s at
-  unfolding number_at item_at
-  refuses e t = first_fault _ (first_fault _ (sym (ap told_moved e) ∙ t))
+-- the same item, its number seen otherwise
+module _ {A : Type 0} (w : ℕ) (f : ℕ → A) (s : List ℕ) (at : ℕ) where
+  pub none_seen : {n p : ℕ} → refused n p ≡ number_at w (λ m. m) s at → refused n p ≡ number_at w f s at
+  unfolding number_at and_then
+  none_seen {n} {p} e = go (item_at s at w) e
+    where
+      go : (m : Answer (List ℕ)) → refused n p ≡ and_then m (λ bs next. gives (big bs) next) → refused n p ≡ and_then m (λ bs next. gives (f (big bs)) next)
+      go (gives bs q) e = let z : ◌≡◌ {A = ℕ} 0 1 = cc in absurd (omega arith)
+      go (refused m q) e = cc e
+
+  pub seen : {v p : ℕ} → gives v p ≡ number_at w (λ m. m) s at → gives (f v) p ≡ number_at w f s at
+  unfolding number_at and_then
+  seen {v} {p} e = go (item_at s at w) e
+    where
+      go : (m : Answer (List ℕ)) → gives v p ≡ and_then m (λ bs next. gives (big bs) next) → gives (f v) p ≡ and_then m (λ bs next. gives (f (big bs)) next)
+      go (gives bs q) e = cc e
+      go (refused m q) e = let z : ◌≡◌ {A = ℕ} 0 1 = cc in absurd (omega arith)

@@ -1,4 +1,2 @@
 pub mod BigEndian
 pub mod Reads
-pub mod Sums
-pub mod Told

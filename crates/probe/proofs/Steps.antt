@@ -1,4 +1,5 @@
 -- What a read leaves, and that no two answers meet the promise. Assumes nothing.
+use Rattle.std.specs.Prelude.{Option, Some, None}
 use Prim.Native.Nat.{ℕ, ◌<◌, ◌≤◌}
 use mathlib.Core.Path.{◌≡◌, refl, sym, subst, ◌∙◌}
 use mathlib.Core.Bool.{Bool, true, false}
@@ -6,8 +7,7 @@ use mathlib.Core.List.{List}
 use lib.ListN.{length}
 use lib.Dec.{ltb}
 use borrow.Author.Tests.{lt-ltb, le-ltb}
-use Rattle.probe_rows.specs.declared.Stepped.{Stepped}
-use Rattle.probe_rows.specs.declared.Stepped.TheVariants as To
+use Rattle.probe_rows.specs.declared.Row.{Row}
 use Rattle.probe_numbers.specs.declared.ReadStep.{ReadStep}
 use Rattle.probe_reads.specs.declared.Reading.{Reading}
 use Rattle.probe_reads.specs.Reads.{ReadSays}
@@ -15,23 +15,23 @@ use Rattle.probe_reads.proofs.Steps.{read_step_settled}
 use Rattle.probe.specs.Kept.{Left}
 use Rattle.probe.specs.Reads.{ReadByLength, Read}
 
-module _ (step : ReadStep) (s : List ℕ) (c : Reading) (old : List ℕ) where
+module _ (step : Option ReadStep) (s : List ℕ) (c : Reading) (old : List ℕ) where
   pub too_small : length old < 48 → Read step s c old 15 old
   too_small h = subst (λ (n : Bool). ReadByLength n step s c old 15 old) (sym (lt-ltb (length old) 48 h)) (refl, refl)
 
-  pub done : (x : Stepped) (r : ℕ) (new : List ℕ) → 48 ≤ length old → ReadSays step s c x → Left x old r new → Read step s c old r new
+  pub done : (x : Option Row) (r : ℕ) (new : List ℕ) → 48 ≤ length old → ReadSays step s c x → Left x old r new → Read step s c old r new
   done x r new h a l =
       subst (λ (n : Bool). ReadByLength n step s c old r new) (sym (le-ltb (length old) 48 h)) (record { stepped = x; says = a; leaves = l })
 
-pub left_settled : (x y : Stepped) (old new new' : List ℕ) (r r' : ℕ) → x ≡ y → Left x old r new → Left y old r' new' → (r ≡ r') × (new ≡ new')
-left_settled x y old new new' r r' e p q = go y (subst (λ (z : Stepped). Left z old r new) e p) q
+pub left_settled : (x y : Option Row) (old new new' : List ℕ) (r r' : ℕ) → x ≡ y → Left x old r new → Left y old r' new' → (r ≡ r') × (new ≡ new')
+left_settled x y old new new' r r' e p q = go y (subst (λ (z : Option Row). Left z old r new) e p) q
   where
-    go : (z : Stepped) → Left z old r new → Left z old r' new' → (r ≡ r') × (new ≡ new')
-    go (To.Set w) a b = (a.0 ∙ sym b.0, a.1 ∙ sym b.1)
-    go To.Unknown a b = (a.0 ∙ sym b.0, a.1 ∙ sym b.1)
+    go : (z : Option Row) → Left z old r new → Left z old r' new' → (r ≡ r') × (new ≡ new')
+    go (Some w) a b = (a.0 ∙ sym b.0, a.1 ∙ sym b.1)
+    go None a b = (a.0 ∙ sym b.0, a.1 ∙ sym b.1)
 
 -- any two records and returns that the promise admits are equal
-pub read_settled : (step : ReadStep) (s : List ℕ) (c : Reading) (old : List ℕ) (r r' : ℕ) (new new' : List ℕ) → Read step s c old r new → Read step s c old r' new'
+pub read_settled : (step : Option ReadStep) (s : List ℕ) (c : Reading) (old : List ℕ) (r r' : ℕ) (new new' : List ℕ) → Read step s c old r new → Read step s c old r' new'
     → (r ≡ r') × (new ≡ new')
 read_settled step s c old r r' new new' = go (ltb (length old) 48)
   where

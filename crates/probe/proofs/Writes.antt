@@ -1,4 +1,5 @@
 -- What a write leaves, and that no two answers meet the promise. Assumes nothing.
+use Rattle.std.specs.Prelude.{Option}
 use Prim.Native.Nat.{ℕ, ◌<◌, ◌≤◌}
 use mathlib.Core.Path.{◌≡◌, refl, sym, subst, ◌∙◌}
 use mathlib.Core.Bool.{Bool, true, false}
@@ -6,7 +7,7 @@ use mathlib.Core.List.{List}
 use lib.ListN.{length}
 use lib.Dec.{ltb}
 use borrow.Author.Tests.{lt-ltb, le-ltb}
-use Rattle.probe_rows.specs.declared.Stepped.{Stepped}
+use Rattle.probe_rows.specs.declared.Row.{Row}
 use Rattle.probe_writes.specs.Writes.{Does, comes_to, WriteSays}
 use Rattle.probe.specs.Kept.{Left}
 use Rattle.probe.specs.Writes.{WrittenByLength, Written}
@@ -16,10 +17,10 @@ module _ (d : Does) (old out : List ℕ) where
   pub write_too_small : length old < 48 → Written d old 15 old out out
   write_too_small h = subst (λ (n : Bool). WrittenByLength n d old 15 old out out) (sym (lt-ltb (length old) 48 h)) (refl, refl, refl)
 
-  pub write_done : (x : Stepped) (r : ℕ) (new out' : List ℕ) → 48 ≤ length old → WriteSays d x out' out → Left x old r new → Written d old r new out out'
+  pub write_done : (x : Option Row) (r : ℕ) (new out' : List ℕ) → 48 ≤ length old → WriteSays d x out' out → Left x old r new → Written d old r new out out'
   write_done x r new out' h a l =
       subst (λ (n : Bool). WrittenByLength n d old r new out out') (sym (le-ltb (length old) 48 h))
-      (record { leaves = subst (λ (z : Stepped). Left z old r new) a.came l; holds = a.holds })
+      (record { leaves = subst (λ (z : Option Row). Left z old r new) a.came l; holds = a.holds })
 
 -- any two records, returns and buffers that the promise admits are equal
 pub written_settled : (d : Does) (old : List ℕ) (r r' : ℕ) (new new' out mid mid' : List ℕ) → Written d old r new out mid → Written d old r' new' out mid'

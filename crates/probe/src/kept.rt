@@ -2,7 +2,7 @@
 ghost use Rattle.std.specs.Prelude.{◌≡◌, ◌≤◌, length};
 ghost use Rattle.probe.specs.Kept.{filled, Left};
 
-use probe_rows::{Row, Stepped};
+use probe_rows::Row;
 
 fn fill(kept: &mut [u8], row: Row)
     requires { 48 ≤ length kept.old }
@@ -16,15 +16,15 @@ fn fill(kept: &mut [u8], row: Row)
     put::put64(&mut kept[40..], row.d);
 }
 
-pub(crate) fn keep(kept: &mut [u8], stepped: Stepped) -> u32
+pub(crate) fn keep(kept: &mut [u8], stepped: Option<Row>) -> u32
     requires { 48 ≤ length kept.old }
     ensures { Left stepped kept.old result kept.new }
 {
     match stepped {
-        Stepped::Set(row) => {
+        Some(row) => {
             fill(kept, row);
             0
         }
-        Stepped::Unknown => 255,
+        None => 255,
     }
 }

@@ -14,6 +14,7 @@ ghost use Rattle.probe.specs.Writes.{Written};
 // Returns 0; 15 where the record has fewer than 48 bytes; 255, with nothing touched, for a step that there is not, or a
 // type that there is not where the step asks for one. Refuses, in the record, what the read of that number refuses.
 // Step 4, 00 00 00 07 at 0, sets 0, 4, 7, 0, 0, 0; step 4, 00 00 00 at 0, sets 1, 0, 0, 0, 0, 0.
+#[tactic(auto, using(crate::proofs::Steps::too_small, crate::proofs::Steps::done))]
 pub fn thrift_read(
     bytes: &[u8],
     place: usize,
@@ -53,6 +54,7 @@ pub fn thrift_read(
 // Refuses, in the record, what the write of that number refuses, and the buffer stays.
 // Step 11, number 7, at 0 of 4 bytes AA leaves 00 00 00 07 and sets 0, 4, 0, 0, 0, 0; at 1 of them it sets 15, 1 and
 // four times 0.
+#[tactic(auto, using(crate::proofs::Writes::write_too_small, crate::proofs::Writes::write_done))]
 pub fn thrift_write(
     out: &mut [u8],
     place: usize,

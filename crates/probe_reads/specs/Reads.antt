@@ -1,9 +1,7 @@
 -- What each read sets the record to.
-use Rattle.std.specs.Prelude.{ℕ, ◌≡◌, not, List, eqb}
+use Rattle.std.specs.Prelude.{ℕ, ◌≡◌, not, List, eqb, None, Option, Some}
 use Rattle.std.specs.Int.{w8, w16, w32, w64}
 use Rattle.wire.specs.Answer.{stay_at}
-use Rattle.codes.specs.declared.Typed.{Typed}
-use Rattle.codes.specs.declared.Typed.TheVariants as TypeOf
 use Rattle.codes.specs.declared.TType.{TType}
 use Rattle.config.specs.Limits.{built_from}
 use Rattle.config.specs.declared.configuration.TConfiguration.{TConfiguration}
@@ -17,8 +15,6 @@ use Rattle.framed.specs.Frames.{frame_at}
 use Rattle.tree.specs.Answers.{Outcome, SkipAnswers}
 use Rattle.binary.specs.Binary.{binary}
 use Rattle.probe_rows.specs.declared.Row.{Row}
-use Rattle.probe_rows.specs.declared.Stepped.{Stepped}
-use Rattle.probe_rows.specs.declared.Stepped.TheVariants as To
 use Rattle.probe_reads.specs.declared.Reading.{Reading}
 use Rattle.probe_numbers.specs.declared.Plain.{Plain}
 use Rattle.probe_numbers.specs.declared.Plain.TheVariants as P
@@ -64,23 +60,23 @@ bounded_row B.Message s c = row_by message_row (message_at c.strict c.limits.max
 bounded_row B.Frame s c = row_by frame_row (frame_at c.limits.max_frame_size s c.place)
 bounded_row B.Limits s c = row_by none_row (built_from c.limits)
 
-abbrev pub scalar_step : Typed → List ℕ → ℕ → Stepped
-scalar_step (TypeOf.Known t) s at = To.Set (row_by (scalar_row t) (scalar_at t s at))
-scalar_step TypeOf.Unknown s at = To.Unknown
+abbrev pub scalar_step : Option TType → List ℕ → ℕ → Option Row
+scalar_step (Some t) s at = Some (row_by (scalar_row t) (scalar_at t s at))
+scalar_step None s at = None
 
 -- a record set by an outcome that the skip answers
-pub record SkipSet (t : TType) (s : List ℕ) (c : Reading) (x : Stepped) : Type 0 where
+pub record SkipSet (t : TType) (s : List ℕ) (c : Reading) (x : Option Row) : Type 0 where
   pub outcome : Outcome
   pub answers : SkipAnswers binary c.limits s c.place c.depth c.struct_depth t outcome
-  pub filled_by : x ≡ To.Set (skip_row c.struct_depth outcome)
+  pub filled_by : x ≡ Some (skip_row c.struct_depth outcome)
 
-abbrev pub SkipStep : Typed → List ℕ → Reading → Stepped → Type 0
-SkipStep (TypeOf.Known t) s c x = SkipSet t s c x
-SkipStep TypeOf.Unknown s c x = x ≡ To.Unknown
+abbrev pub SkipStep : Option TType → List ℕ → Reading → Option Row → Type 0
+SkipStep (Some t) s c x = SkipSet t s c x
+SkipStep None s c x = x ≡ None
 
-abbrev pub ReadSays : ReadStep → List ℕ → Reading → Stepped → Type 0
-ReadSays (Step.Plain p) s c x = x ≡ To.Set (plain_row p s c.place)
-ReadSays (Step.Bounded b) s c x = x ≡ To.Set (bounded_row b s c)
-ReadSays Step.Scalar s c x = x ≡ scalar_step c.kind s c.place
-ReadSays Step.Skip s c x = SkipStep c.kind s c x
-ReadSays Step.Unknown s c x = x ≡ To.Unknown
+abbrev pub ReadSays : Option ReadStep → List ℕ → Reading → Option Row → Type 0
+ReadSays (Some (Step.Plain p)) s c x = x ≡ Some (plain_row p s c.place)
+ReadSays (Some (Step.Bounded b)) s c x = x ≡ Some (bounded_row b s c)
+ReadSays (Some Step.Scalar) s c x = x ≡ scalar_step c.kind s c.place
+ReadSays (Some Step.Skip) s c x = SkipStep c.kind s c x
+ReadSays None s c x = x ≡ None

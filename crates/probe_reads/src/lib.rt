@@ -6,18 +6,18 @@ ghost use Rattle.config.specs.Limits.{limits_of};
 ghost use Rattle.probe_numbers.specs.Numbers.{read_step_of};
 ghost use Rattle.probe_reads.specs.Reads.{reading_of, plain_row, bounded_row, scalar_step, SkipStep, ReadSays};
 
-use codes::Typed;
+use codes::TType;
 use config::configuration::TConfiguration;
 use probe_numbers::{Bounded, Plain, ReadStep};
-use probe_rows::{Row, Stepped};
+use probe_rows::{Row, of_limits, of_moved, of_read, of_scalar, of_skip};
 use wire::cursor::Cursor;
 
 // What a read may be asked with.
-#[derive(Clone, Copy)]
+#[derive(Clone, Copy, Debug, PartialEq, Eq)]
 pub struct Reading {
     pub place: usize,
     pub strict: bool,
-    pub kind: Typed,
+    pub kind: Option<TType>,
     pub depth: usize,
     pub struct_depth: usize,
     pub limits: TConfiguration,
@@ -52,24 +52,22 @@ fn plain(bytes: &[u8], cursor: Cursor, step: Plain) -> Row
     ensures { result ≡ plain_row step bytes.now cursor.at }
 {
     match step {
-        Plain::Byte => probe_rows::of_byte(number::read_byte(bytes, cursor)),
-        Plain::Bool => probe_rows::of_bool(number::read_bool(bytes, cursor)),
-        Plain::I8 => probe_rows::of_i8(number::read_i8(bytes, cursor)),
-        Plain::I16 => probe_rows::of_i16(number::read_i16(bytes, cursor)),
-        Plain::I32 => probe_rows::of_i32(number::read_i32(bytes, cursor)),
-        Plain::I64 => probe_rows::of_i64(number::read_i64(bytes, cursor)),
-        Plain::Double => probe_rows::of_double(number::read_double(bytes, cursor)),
-        Plain::Uuid => probe_rows::of_text(text::read_uuid(bytes, cursor)),
-        Plain::Type => probe_rows::of_type(read::field::read_type(bytes, cursor)),
-        Plain::Field => probe_rows::of_field(read::field::read_field_begin(bytes, cursor)),
-        Plain::MessageType => {
-            probe_rows::of_message_type(message::read_message_type(bytes, cursor))
-        }
-        Plain::MessageEnd => probe_rows::of_moved(message::read_message_end(bytes, cursor)),
-        Plain::FieldEnd => probe_rows::of_moved(read::field::read_field_end(bytes, cursor)),
-        Plain::ListEnd => probe_rows::of_moved(read::container::read_list_end(bytes, cursor)),
-        Plain::SetEnd => probe_rows::of_moved(read::container::read_set_end(bytes, cursor)),
-        Plain::MapEnd => probe_rows::of_moved(read::container::read_map_end(bytes, cursor)),
+        Plain::Byte => of_read(number::read_byte(bytes, cursor)),
+        Plain::Bool => of_read(number::read_bool(bytes, cursor)),
+        Plain::I8 => of_read(number::read_i8(bytes, cursor)),
+        Plain::I16 => of_read(number::read_i16(bytes, cursor)),
+        Plain::I32 => of_read(number::read_i32(bytes, cursor)),
+        Plain::I64 => of_read(number::read_i64(bytes, cursor)),
+        Plain::Double => of_read(number::read_double(bytes, cursor)),
+        Plain::Uuid => of_read(text::read_uuid(bytes, cursor)),
+        Plain::Type => of_read(read::field::read_type(bytes, cursor)),
+        Plain::Field => of_read(read::field::read_field_begin(bytes, cursor)),
+        Plain::MessageType => of_read(message::read_message_type(bytes, cursor)),
+        Plain::MessageEnd => of_moved(message::read_message_end(bytes, cursor)),
+        Plain::FieldEnd => of_moved(read::field::read_field_end(bytes, cursor)),
+        Plain::ListEnd => of_moved(read::container::read_list_end(bytes, cursor)),
+        Plain::SetEnd => of_moved(read::container::read_set_end(bytes, cursor)),
+        Plain::MapEnd => of_moved(read::container::read_map_end(bytes, cursor)),
     }
 }
 
@@ -81,73 +79,53 @@ fn bounded(bytes: &[u8], call: Reading, step: Bounded) -> Row
     let depth = call.struct_depth;
     let strict = call.strict;
     match step {
-        Bounded::Bytes => probe_rows::of_text(text::read_bytes(bytes, at, limits)),
-        Bounded::String => probe_rows::of_text(text::read_string(bytes, at, limits)),
-        Bounded::List => probe_rows::of_list(read::container::read_list_begin(bytes, at, limits)),
-        Bounded::Set => probe_rows::of_set(read::container::read_set_begin(bytes, at, limits)),
-        Bounded::Map => probe_rows::of_map(read::container::read_map_begin(bytes, at, limits)),
-        Bounded::StructBegin => {
-            probe_rows::of_depth(nesting::read_struct_begin(bytes, at, depth, limits))
-        }
-        Bounded::StructEnd => { probe_rows::of_depth(nesting::read_struct_end(bytes, at, depth)) }
-        Bounded::Message => {
-            probe_rows::of_message(message::read_message_begin(bytes, at, strict, limits))
-        }
-        Bounded::Frame => probe_rows::of_frame(framed::read_frame(bytes, at, limits)),
-        Bounded::Limits => probe_rows::of_limits(limits.build()),
+        Bounded::Bytes => of_read(text::read_bytes(bytes, at, limits)),
+        Bounded::String => of_read(text::read_string(bytes, at, limits)),
+        Bounded::List => of_read(read::container::read_list_begin(bytes, at, limits)),
+        Bounded::Set => of_read(read::container::read_set_begin(bytes, at, limits)),
+        Bounded::Map => of_read(read::container::read_map_begin(bytes, at, limits)),
+        Bounded::StructBegin => of_read(nesting::read_struct_begin(bytes, at, depth, limits)),
+        Bounded::StructEnd => of_read(nesting::read_struct_end(bytes, at, depth)),
+        Bounded::Message => of_read(message::read_message_begin(bytes, at, strict, limits)),
+        Bounded::Frame => of_read(framed::read_frame(bytes, at, limits)),
+        Bounded::Limits => of_limits(limits.build()),
     }
 }
 
-fn scalar(bytes: &[u8], call: Reading) -> Stepped
+fn scalar(bytes: &[u8], call: Reading) -> Option<Row>
     ensures { result ≡ scalar_step call.kind bytes.now call.place }
 {
-    let at = Cursor { at: call.place };
-    let kind = call.kind;
-    match kind {
-        Typed::Known(t) => Stepped::Set(probe_rows::of_scalar(
-            t,
-            scalar::read_scalar(bytes, at, t),
-        )),
-        Typed::Unknown => Stepped::Unknown,
-    }
+    let t = call.kind?;
+    let read = scalar::read_scalar(bytes, Cursor { at: call.place }, t);
+    Some(of_scalar(t, read))
 }
 
-fn skip_one(bytes: &[u8], call: Reading) -> Stepped
+#[tactic(auto, using(crate::proofs::Steps::skip_step, crate::proofs::Steps::no_kind))]
+fn skip_one(bytes: &[u8], call: Reading) -> Option<Row>
     ensures { SkipStep call.kind bytes.now call result }
 {
+    let t = call.kind?;
     let at = Cursor { at: call.place };
-    let kind = call.kind;
-    let limits = call.limits;
     let depth = call.depth;
     let struct_depth = call.struct_depth;
-    match kind {
-        Typed::Known(t) => Stepped::Set(probe_rows::of_skip(skip::till_depth::skip_till_depth(
-            bytes,
-            at,
-            t,
-            depth,
-            struct_depth,
-            limits,
-        ))),
-        Typed::Unknown => Stepped::Unknown,
-    }
+    Some(of_skip(skip::till_depth::skip_till_depth(bytes, at, t, depth, struct_depth, call.limits)))
 }
 
-fn by_step(bytes: &[u8], step: ReadStep, call: Reading) -> Stepped
-    ensures { ReadSays step bytes.now call result }
+fn by_step(bytes: &[u8], step: ReadStep, call: Reading) -> Option<Row>
+    ensures { ReadSays (Some step) bytes.now call result }
 {
     match step {
-        ReadStep::Plain(p) => Stepped::Set(plain(bytes, Cursor { at: call.place }, p)),
-        ReadStep::Bounded(b) => Stepped::Set(bounded(bytes, call, b)),
+        ReadStep::Plain(p) => Some(plain(bytes, Cursor { at: call.place }, p)),
+        ReadStep::Bounded(b) => Some(bounded(bytes, call, b)),
         ReadStep::Scalar => scalar(bytes, call),
         ReadStep::Skip => skip_one(bytes, call),
-        ReadStep::Unknown => Stepped::Unknown,
     }
 }
 
-// The record that the read of a number comes to, its refusals among them, or Unknown. Refuses nothing itself.
-pub fn by_number(bytes: &[u8], step: u8, call: Reading) -> Stepped
+// The record that the read of a number comes to, its refusals among them, or None where there is no such step or type.
+// Refuses nothing itself.
+pub fn by_number(bytes: &[u8], step: u8, call: Reading) -> Option<Row>
     ensures { ReadSays (read_step_of step) bytes.now call result }
 {
-    by_step(bytes, probe_numbers::read_step(step), call)
+    by_step(bytes, probe_numbers::read_step(step)?, call)
 }

@@ -1,5 +1,5 @@
 -- The record's six numbers for each kind of answer. Signed values are given by their bits, types by their bytes.
-use Rattle.std.specs.Prelude.{ℕ, Bool, ℤ, Float}
+use Rattle.std.specs.Prelude.{ℕ, Bool, ℤ, Float, Option, Some, None, Result, Ok, Err}
 use Rattle.std.specs.Float.{binary64}
 use Rattle.std.specs.Float.Ieee.{to_bits}
 use Rattle.std.specs.Int.{Width, w8, w16, w32, w64}
@@ -16,11 +16,10 @@ use Rattle.read.specs.declared.container.TMapIdentifier.{TMapIdentifier}
 use Rattle.scalar.specs.declared.Scalar.{Scalar}
 use Rattle.scalar.specs.declared.Scalar.TheVariants as S
 use Rattle.message.specs.declared.TMessageIdentifier.{TMessageIdentifier}
-use Rattle.framed.specs.Frames.{Next, frame, end}
 use Rattle.write.specs.Outputs.{bool_byte}
 use Rattle.tree.specs.Answers.{Outcome, ended, cut_off}
+use Rattle.leaf.specs.declared.Halt.{Halt}
 use Rattle.skip.specs.declared.till_depth.Skipped.{Skipped}
-use Rattle.skip.specs.declared.till_depth.Skipped.TheVariants as Skip
 use Rattle.probe_rows.specs.declared.Row.{Row}
 
 -- refusal number or 0, end or place, a, b, c, d
@@ -73,9 +72,9 @@ abbrev pub message_row : TMessageIdentifier → ℕ → Row
 message_row v p = row 0 p v.name.start v.name.end (message_byte v.message_type) (of_z w32 v.sequence_number)
 
 -- 1 where there is a frame, 0 at the end
-abbrev pub frame_row : Next → ℕ → Row
-frame_row (frame v) p = row 0 p 1 v.start v.end 0
-frame_row end p = row 0 p 0 0 0 0
+abbrev pub frame_row : Option Span → ℕ → Row
+frame_row (Some v) p = row 0 p 1 v.start v.end 0
+frame_row None p = row 0 p 0 0 0 0
 
 abbrev pub scalar_bits : Scalar → ℕ
 scalar_bits (S.Bool b) = bool_byte b
@@ -94,6 +93,6 @@ skip_row sd (ended e n) = row 0 e n sd 0 0
 skip_row sd (cut_off k p n) = row k p n 0 0 0
 
 -- the struct depth in the skip's own answer; a refusal has none
-abbrev pub depth_in : Skipped → ℕ
-depth_in (Skip.Passed c d n) = d
-depth_in (Skip.Refused x n) = 0
+abbrev pub depth_in : Result Skipped Halt → ℕ
+depth_in (Ok k) = k.struct_depth
+depth_in (Err x) = 0

@@ -1,29 +1,20 @@
 -- What each write sets the record to, and what it leaves in the buffer.
-use Rattle.std.specs.Prelude.{ℕ, ◌/◌, ◌%◌, ◌≡◌, not, cond, List, eqb, length, ℤ}
+use Rattle.std.specs.Prelude.{ℕ, ◌/◌, ◌%◌, ◌≡◌, not, cond, List, eqb, length, ℤ, None, Option, Some}
 use Rattle.std.specs.Float.{binary64}
 use Rattle.std.specs.Float.Ieee.{of_bits}
 use Rattle.std.specs.Int.{w8, w16, w32, w64}
 use Rattle.std.proofs.Common.{to_z}
 use Rattle.wire.specs.Answer.{Answer, judged, stay_at}
+use Rattle.codes.specs.declared.TMessageType.{TMessageType}
 use Rattle.codes.specs.Codes.{message_of}
 use Rattle.wire.specs.Writes.{left}
 use Rattle.codes.specs.declared.TType.{TType}
-use Rattle.codes.specs.declared.Typed.{Typed}
-use Rattle.codes.specs.declared.Typed.TheVariants as TypeOf
-use Rattle.codes.specs.declared.Messaged.{Messaged}
-use Rattle.codes.specs.declared.Messaged.TheVariants as MessageOf
 use Rattle.nesting.specs.Structs.{struct_begin_at, struct_end_at}
 use Rattle.write.specs.Outputs.{byte_write, bool_write, i8_write, i16_write, i32_write, i64_write, double_write, uuid_write, bytes_write, string_write}
 use Rattle.write_headers.specs.Outputs.{field_write, stop_write, list_write, map_write}
 use Rattle.write_message.specs.Outputs.{message_write}
-use Rattle.write_headers.specs.declared.field.FieldId.{FieldId}
-use Rattle.write_headers.specs.declared.field.FieldId.TheVariants as Id
-use Rattle.write_headers.specs.declared.container.MapType.{MapType}
-use Rattle.write_headers.specs.declared.container.MapType.TheVariants as OfMap
 use Rattle.framed.specs.Frames.{frame_write}
 use Rattle.probe_rows.specs.declared.Row.{Row}
-use Rattle.probe_rows.specs.declared.Stepped.{Stepped}
-use Rattle.probe_rows.specs.declared.Stepped.TheVariants as To
 use Rattle.probe_writes.specs.declared.Writing.{Writing}
 use Rattle.probe_numbers.specs.declared.Put.{Put}
 use Rattle.probe_numbers.specs.declared.Put.TheVariants as U
@@ -66,11 +57,14 @@ put_write U.String n text out at = string_write text out at
 put_write U.Frame n text out at = frame_write text out at
 
 -- bit 0 set: missing
-abbrev pub field_id_of : ℕ → ℕ → FieldId
-field_id_of absent n = cond (eqb (absent % 2) 1) Id.Absent (Id.Of (low16 n))
+abbrev pub unless_absent : {A : Type 0} → ℕ → A → Option A
+unless_absent absent v = cond (eqb (absent % 2) 1) None (Some v)
 
-abbrev pub map_type_of : ℕ → TType → MapType
-map_type_of absent t = cond (eqb (absent % 2) 1) OfMap.Absent (OfMap.Of t)
+abbrev pub field_id_of : ℕ → ℕ → Option ℤ
+field_id_of absent n = cond (eqb (absent % 2) 1) None (Some (low16 n))
+
+abbrev pub map_type_of : ℕ → TType → Option TType
+map_type_of absent t = cond (eqb (absent % 2) 1) None (Some t)
 
 abbrev pub headed_write : Headed → TType → Writing → List ℕ → ℕ → Answer (List ℕ)
 headed_write H.Field t c out at = field_write t (field_id_of c.absent c.number) out at
@@ -96,24 +90,24 @@ pub data Does : Type 0 where
   stays : Row → Does
   nothing : Does
 
-abbrev pub comes_to : Does → Stepped
-comes_to (writes w) = To.Set (row_by none_row (judged w))
-comes_to (stays w) = To.Set w
-comes_to nothing = To.Unknown
+abbrev pub comes_to : Does → Option Row
+comes_to (writes w) = Some (row_by none_row (judged w))
+comes_to (stays w) = Some w
+comes_to nothing = None
 
 abbrev pub buffer : Does → List ℕ → List ℕ
 buffer (writes w) old = left w old
 buffer (stays w) old = old
 buffer nothing old = old
 
-pub record WriteSays (d : Does) (x : Stepped) (new old : List ℕ) : Type 0 where
+pub record WriteSays (d : Does) (x : Option Row) (new old : List ℕ) : Type 0 where
   pub came : x ≡ comes_to d
   pub holds : new ≡ buffer d old
 
 -- a type index, or a message type's byte, must be known
-abbrev pub if_type : Typed → (TType → Does) → Does
-if_type (TypeOf.Known t) does = does t
-if_type TypeOf.Unknown does = nothing
+abbrev pub if_type : Option TType → (TType → Does) → Does
+if_type (Some t) does = does t
+if_type None does = nothing
 
 abbrev pub headed_does : Headed → Writing → List ℕ → ℕ → Does
 headed_does h c out at = if_type (kind_of c.kind) λ t. writes (headed_write h t c out at)
@@ -124,9 +118,9 @@ map_does c out at =
     if_type (kind_of c.other) λ v.
     writes (map_asked k v c out at)
 
-abbrev pub message_by : Messaged → Writing → List ℕ → List ℕ → ℕ → Does
-message_by (MessageOf.Known t) c name out at = writes (message_write c.strict name t (low32 c.number) out at)
-message_by MessageOf.Unknown c name out at = nothing
+abbrev pub message_by : Option TMessageType → Writing → List ℕ → List ℕ → ℕ → Does
+message_by (Some t) c name out at = writes (message_write c.strict name t (low32 c.number) out at)
+message_by None c name out at = nothing
 
 abbrev pub message_does : Writing → List ℕ → List ℕ → ℕ → Does
 message_does c name out at = message_by (message_of c.kind) c name out at
@@ -134,11 +128,11 @@ message_does c name out at = message_by (message_of c.kind) c name out at
 abbrev pub uuid_does : List ℕ → List ℕ → ℕ → Does
 uuid_does text out at = cond (eqb (length text) 16) (writes (uuid_write text out at)) nothing
 
-abbrev pub does_of : WriteStep → Writing → List ℕ → List ℕ → Does
-does_of (Write.Put p) c text out = writes (put_write p c.number text out c.place)
-does_of (Write.Headed h) c text out = headed_does h c out c.place
-does_of Write.Map c text out = map_does c out c.place
-does_of Write.Message c text out = message_does c text out c.place
-does_of Write.Uuid c text out = uuid_does text out c.place
-does_of (Write.Still q) c text out = stays (still_row q c out c.place)
-does_of Write.Unknown c text out = nothing
+abbrev pub does_of : Option WriteStep → Writing → List ℕ → List ℕ → Does
+does_of (Some (Write.Put p)) c text out = writes (put_write p c.number text out c.place)
+does_of (Some (Write.Headed h)) c text out = headed_does h c out c.place
+does_of (Some Write.Map) c text out = map_does c out c.place
+does_of (Some Write.Message) c text out = message_does c text out c.place
+does_of (Some Write.Uuid) c text out = uuid_does text out c.place
+does_of (Some (Write.Still q)) c text out = stays (still_row q c out c.place)
+does_of None c text out = nothing

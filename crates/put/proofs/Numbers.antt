@@ -1,16 +1,16 @@
--- The two cases of a number put in front, at any width. Assumes nothing.
-use Prim.Native.Nat.{ℕ, ◌<◌, ◌≤◌}
-use mathlib.Core.Path.{◌≡◌}
-use mathlib.Core.List.{List, ◌++◌}
-use lib.ListN.{length, drop}
+-- A number put in front, by the library's own bytes of it. Assumes nothing.
+use Prim.Native.Nat.{ℕ}
+use mathlib.Core.Path.{◌≡◌, ◌∙◌, ap}
+use mathlib.Core.List.{List}
+use mir.Syntax.{w32, w64}
+use Rattle.std.specs.Int.{to_be_bytes}
 use Rattle.wire.specs.Writes.{in_front}
-use Rattle.wire.proofs.Writes.{no_front, fronted}
 use Rattle.number.specs.BigEndian.{bytes_of}
-use Rattle.number.proofs.Widths.{length-bytes_of}
+use Rattle.number.proofs.Widths.{high_first}
 
-module _ (w n : ℕ) (out : List ℕ) where
-  pub no_room : length out < w → out ≡ in_front (bytes_of w n) out
-  no_room h = no_front (bytes_of w n) out (rw (length-bytes_of w n) h)
+module _ (n : ℕ) (out : List ℕ) {new bs : List ℕ} (f : new ≡ in_front bs out) where
+  pub four : bs ≡ to_be_bytes w32 n → new ≡ in_front (bytes_of 4 n) out
+  four e = f ∙ ap (λ (l : List ℕ). in_front l out) (e ∙ high_first 4 n)
 
-  pub in_front_lem : {new : List ℕ} → w ≤ length out → new ≡ bytes_of w n ++ drop w out → new ≡ in_front (bytes_of w n) out
-  in_front_lem h e = fronted (bytes_of w n) out (rw (length-bytes_of w n) h) (rw (length-bytes_of w n) e)
+  pub eight : bs ≡ to_be_bytes w64 n → new ≡ in_front (bytes_of 8 n) out
+  eight e = f ∙ ap (λ (l : List ℕ). in_front l out) (e ∙ high_first 8 n)

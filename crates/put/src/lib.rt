@@ -12,23 +12,7 @@ ghost use Rattle.text.specs.Texts.{sized_layout};
 pub fn put8(out: &mut [u8], v: u8)
     ensures { out.new ≡ in_front (v ∷ []) out.old }
 {
-    if out.len() < 1 {
-        return;
-    }
-    out[0] = v;
-}
-
-// A number of 16 bits in front, big-endian. Refuses nothing.
-// 7 into 3 bytes AA leaves 00 07 AA; into 1 byte AA it writes nothing.
-pub fn put16(out: &mut [u8], v: u16)
-    ensures { out.new ≡ in_front (bytes_of 2 v) out.old }
-{
-    if out.len() < 2 {
-        return;
-    }
-    let b = v / 256;
-    out[0] = (b % 256) as u8;
-    out[1] = (v % 256) as u8;
+    put_bytes(out, &[v]);
 }
 
 // A number of 32 bits in front, big-endian. Refuses nothing.
@@ -36,16 +20,7 @@ pub fn put16(out: &mut [u8], v: u16)
 pub fn put32(out: &mut [u8], v: u32)
     ensures { out.new ≡ in_front (bytes_of 4 v) out.old }
 {
-    if out.len() < 4 {
-        return;
-    }
-    let b = v / 256;
-    let c = b / 256;
-    let d = c / 256;
-    out[0] = (d % 256) as u8;
-    out[1] = (c % 256) as u8;
-    out[2] = (b % 256) as u8;
-    out[3] = (v % 256) as u8;
+    put_bytes(out, &u32::to_be_bytes(v));
 }
 
 // A number of 64 bits in front, big-endian. Refuses nothing.
@@ -53,28 +28,12 @@ pub fn put32(out: &mut [u8], v: u32)
 pub fn put64(out: &mut [u8], v: u64)
     ensures { out.new ≡ in_front (bytes_of 8 v) out.old }
 {
-    if out.len() < 8 {
-        return;
-    }
-    let b = v / 256;
-    let c = b / 256;
-    let d = c / 256;
-    let e = d / 256;
-    let f = e / 256;
-    let g = f / 256;
-    let h = g / 256;
-    out[0] = (h % 256) as u8;
-    out[1] = (g % 256) as u8;
-    out[2] = (f % 256) as u8;
-    out[3] = (e % 256) as u8;
-    out[4] = (d % 256) as u8;
-    out[5] = (c % 256) as u8;
-    out[6] = (b % 256) as u8;
-    out[7] = (v % 256) as u8;
+    put_bytes(out, &v.to_be_bytes());
 }
 
 // Bytes in front. Refuses nothing.
 // 61 62 into AA AA AA leaves 61 62 AA; into AA it writes nothing.
+#[tactic(auto, using(wire::proofs::Writes::no_front))]
 pub fn put_bytes(out: &mut [u8], src: &[u8])
     ensures { out.new ≡ in_front src.now out.old }
 {

@@ -1,2 +1,1 @@
 pub mod Headers
-pub mod Settled

@@ -1,10 +1,8 @@
 -- Headers: a type byte, a field, lists, sets and maps.
-use Rattle.std.specs.Prelude.{ℕ, ◌+◌, ◌*◌, cond, List, ℤ, pos}
+use Rattle.std.specs.Prelude.{ℕ, ◌+◌, ◌*◌, cond, List, ℤ, pos, Option, Some, None}
 use Rattle.wire.specs.Answer.{Answer, gives, refused, refuse_if, and_then, mapped}
 use Rattle.codes.specs.Codes.{type_of, is_stop, least_size}
 use Rattle.codes.specs.declared.TType.{TType}
-use Rattle.codes.specs.declared.Typed.{Typed}
-use Rattle.codes.specs.declared.Typed.TheVariants as TypeOf
 use Rattle.number.specs.Reads.{byte_at, i16_at}
 use Rattle.config.specs.Limits.{above}
 use Rattle.config.specs.declared.configuration.TConfiguration.{TConfiguration}
@@ -15,9 +13,9 @@ use Rattle.read.specs.declared.container.TSetIdentifier.{TSetIdentifier}
 use Rattle.read.specs.declared.container.TMapIdentifier.{TMapIdentifier}
 
 -- "type byte (1, 5)": what the byte stands for, or 5 at that byte
-abbrev pub known : ℕ → ℕ → Typed → Answer TType
-known at next (TypeOf.Known t) = gives t next
-known at next TypeOf.Unknown = refused 5 at
+abbrev pub known : ℕ → ℕ → Option TType → Answer TType
+known at next (Some t) = gives t next
+known at next None = refused 5 at
 
 unfoldable pub type_at : List ℕ → ℕ → Answer TType
 type_at s at = and_then (byte_at s at) λ b next. known at next (type_of b)

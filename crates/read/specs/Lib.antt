@@ -1,3 +1,2 @@
 pub mod Headers
 pub mod Layouts
-pub mod Told

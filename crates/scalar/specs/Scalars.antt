@@ -1,14 +1,11 @@
 -- The typed scalar read: "one of the scalar kinds with its value"; "any other type asked for is 12, before 1".
 use Rattle.std.specs.Prelude.{ℕ, List}
-use Rattle.wire.specs.Answer.{Answer, gives, refused, mapped, entry}
-use Rattle.wire.specs.Refusals.{told_refusal}
+use Rattle.wire.specs.Answer.{Answer, refused, mapped, entry}
 use Rattle.codes.specs.declared.TType.{TType}
 use Rattle.codes.specs.declared.TType.TheVariants as T
 use Rattle.number.specs.Reads.{bool_at, i8_at, i16_at, i32_at, i64_at, double_at}
 use Rattle.scalar.specs.declared.Scalar.{Scalar}
 use Rattle.scalar.specs.declared.Scalar.TheVariants as S
-use Rattle.scalar.specs.declared.ScalarRead.{ScalarRead}
-use Rattle.scalar.specs.declared.ScalarRead.TheVariants as ScalarIs
 
 -- a type that is no scalar kind
 unfoldable pub wrong_at : List ℕ → ℕ → Answer Scalar
@@ -31,8 +28,3 @@ scalar_at T.Map s at = wrong_at s at
 scalar_at T.Set s at = wrong_at s at
 scalar_at T.List s at = wrong_at s at
 scalar_at T.Uuid s at = wrong_at s at
-
--- what the answer tells
-abbrev pub told_scalar : ScalarRead → Answer Scalar
-told_scalar (ScalarIs.Value v c) = gives v c.at
-told_scalar (ScalarIs.Refused x) = told_refusal x

@@ -2,17 +2,15 @@
 #![tactic(auto)]
 
 ghost use Rattle.std.specs.Prelude.{◌≡◌};
-ghost use Rattle.wire.specs.Answer.{mapped};
-ghost use Rattle.scalar.specs.Scalars.{scalar_at, wrong_at, told_scalar};
-ghost use Rattle.scalar.specs.declared.Scalar.TheVariants as S;
-ghost use Rattle.number.specs.Told.{told_bool, told_i8, told_i16, told_i32, told_i64, told_double};
+ghost use Rattle.wire.specs.Refusals.{told};
+ghost use Rattle.scalar.specs.Scalars.{scalar_at, wrong_at};
 
 use codes::TType;
-use number::{BoolRead, DoubleRead, I8Read, I16Read, I32Read, I64Read};
+use wire::Result;
 use wire::cursor::Cursor;
-use wire::refusal::{Kind, Refusal};
+use wire::refusal::Kind;
 
-#[derive(Clone, Copy)]
+#[derive(Clone, Copy, Debug, PartialEq)]
 pub enum Scalar {
     Bool(bool),
     I08(i8),
@@ -22,103 +20,37 @@ pub enum Scalar {
     Double(f64),
 }
 
-#[derive(Clone, Copy)]
-pub enum ScalarRead {
-    Value(Scalar, Cursor),
-    Refused(Refusal),
-}
-
-fn of_bool(read: BoolRead) -> ScalarRead
-    ensures { told_scalar result ≡ mapped S.Bool (told_bool read) }
-{
-    match read {
-        BoolRead::Value(v, next) => ScalarRead::Value(Scalar::Bool(v), next),
-        BoolRead::Refused(refusal) => ScalarRead::Refused(refusal),
-    }
-}
-
-fn of_i8(read: I8Read) -> ScalarRead
-    ensures { told_scalar result ≡ mapped S.I08 (told_i8 read) }
-{
-    match read {
-        I8Read::Value(v, next) => ScalarRead::Value(Scalar::I08(v), next),
-        I8Read::Refused(refusal) => ScalarRead::Refused(refusal),
-    }
-}
-
-fn of_i16(read: I16Read) -> ScalarRead
-    ensures { told_scalar result ≡ mapped S.I16 (told_i16 read) }
-{
-    match read {
-        I16Read::Value(v, next) => ScalarRead::Value(Scalar::I16(v), next),
-        I16Read::Refused(refusal) => ScalarRead::Refused(refusal),
-    }
-}
-
-fn of_i32(read: I32Read) -> ScalarRead
-    ensures { told_scalar result ≡ mapped S.I32 (told_i32 read) }
-{
-    match read {
-        I32Read::Value(v, next) => ScalarRead::Value(Scalar::I32(v), next),
-        I32Read::Refused(refusal) => ScalarRead::Refused(refusal),
-    }
-}
-
-fn of_i64(read: I64Read) -> ScalarRead
-    ensures { told_scalar result ≡ mapped S.I64 (told_i64 read) }
-{
-    match read {
-        I64Read::Value(v, next) => ScalarRead::Value(Scalar::I64(v), next),
-        I64Read::Refused(refusal) => ScalarRead::Refused(refusal),
-    }
-}
-
-fn of_double(read: DoubleRead) -> ScalarRead
-    ensures { told_scalar result ≡ mapped S.Double (told_double read) }
-{
-    match read {
-        DoubleRead::Value(v, next) => ScalarRead::Value(Scalar::Double(v), next),
-        DoubleRead::Refused(refusal) => ScalarRead::Refused(refusal),
-    }
-}
-
 // A type that is no scalar kind: 12, unless the start lies beyond the bytes.
-fn wrong_type(bytes: &[u8], cursor: Cursor) -> ScalarRead
-    ensures { told_scalar result ≡ wrong_at bytes.now cursor.at }
+#[tactic(auto, unfolding(crate::specs::Scalars::wrong_at, wire::specs::Answer::stay_at, wire::specs::Answer::refuse_if))]
+fn wrong_type(bytes: &[u8], cursor: Cursor) -> Result<(Scalar, Cursor)>
+    ensures { told result ≡ wrong_at bytes.now cursor.at }
 {
-    let at = cursor.at;
-    if bytes.len() < at {
-        return ScalarRead::Refused(Refusal {
-            kind: Kind::StartBeyond,
-            place: at,
-        });
-    }
-    ScalarRead::Refused(Refusal {
-        kind: Kind::WrongType,
-        place: at,
-    })
+    cursor.stay(bytes)?;
+    Err(Kind::WrongType.at(cursor.at))
 }
 
 // A scalar of the type asked for. Refuses 2, then 12 for a type that is no scalar kind, else 1.
 // 00 00 00 07 at 0 as I32 gives 7 and ends at 4; no byte at 0 as String is refused: 12 at 0.
-pub fn read_scalar(bytes: &[u8], cursor: Cursor, scalar_type: TType) -> ScalarRead
-    ensures { told_scalar result ≡ scalar_at scalar_type bytes.now cursor.at }
+pub fn read_scalar(bytes: &[u8], cursor: Cursor, scalar_type: TType) -> Result<(Scalar, Cursor)>
+    ensures { told result ≡ scalar_at scalar_type bytes.now cursor.at }
 {
     match scalar_type {
-        TType::Stop => wrong_type(bytes, cursor),
-        TType::Void => wrong_type(bytes, cursor),
-        TType::Bool => of_bool(number::read_bool(bytes, cursor)),
-        TType::I08 => of_i8(number::read_i8(bytes, cursor)),
-        TType::Double => of_double(number::read_double(bytes, cursor)),
-        TType::I16 => of_i16(number::read_i16(bytes, cursor)),
-        TType::I32 => of_i32(number::read_i32(bytes, cursor)),
-        TType::I64 => of_i64(number::read_i64(bytes, cursor)),
-        TType::String => wrong_type(bytes, cursor),
-        TType::Utf7 => wrong_type(bytes, cursor),
-        TType::Struct => wrong_type(bytes, cursor),
-        TType::Map => wrong_type(bytes, cursor),
-        TType::Set => wrong_type(bytes, cursor),
-        TType::List => wrong_type(bytes, cursor),
-        TType::Uuid => wrong_type(bytes, cursor),
+        TType::Bool => number::read_bool(bytes, cursor).map(|(v, next)| (Scalar::Bool(v), next)),
+        TType::I08 => number::read_i8(bytes, cursor).map(|(v, next)| (Scalar::I08(v), next)),
+        TType::Double => {
+            number::read_double(bytes, cursor).map(|(v, next)| (Scalar::Double(v), next))
+        }
+        TType::I16 => number::read_i16(bytes, cursor).map(|(v, next)| (Scalar::I16(v), next)),
+        TType::I32 => number::read_i32(bytes, cursor).map(|(v, next)| (Scalar::I32(v), next)),
+        TType::I64 => number::read_i64(bytes, cursor).map(|(v, next)| (Scalar::I64(v), next)),
+        TType::Stop
+        | TType::Void
+        | TType::String
+        | TType::Utf7
+        | TType::Struct
+        | TType::Map
+        | TType::Set
+        | TType::List
+        | TType::Uuid => wrong_type(bytes, cursor),
     }
 }

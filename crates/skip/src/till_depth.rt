@@ -1,42 +1,52 @@
 // The public skip.
 ghost use Rattle.std.specs.Prelude.{◌≡◌};
-ghost use Rattle.skip.specs.Skips.{SkipSays, default_depth, refused_at_entry};
+ghost use Rattle.wire.specs.Refusals.{told_moved};
+ghost use Rattle.tree.specs.Answers.{skip_entry};
+ghost use Rattle.skip.specs.Skips.{SkipSays, default_depth};
 
 use codes::TType;
 use config::configuration::TConfiguration;
-use leaf::Walked;
+use leaf::Halt;
 use wire::cursor::Cursor;
-use wire::refusal::{Kind, Refusal};
+use wire::refusal::Kind;
 
 // The depth that `skip` starts with.
 pub const MAXIMUM_SKIP_DEPTH: usize = 64;
 
-// The cursor past the value, the struct depth as it was and the number of values; or the refusal and the values begun.
-#[derive(Clone, Copy)]
-pub enum Skipped {
-    Passed {
-        next: Cursor,
-        struct_depth: usize,
-        count: usize,
-    },
-    Refused {
-        refusal: Refusal,
-        count: usize,
-    },
+// The cursor past the value, the struct depth as it was and the number of values.
+#[derive(Clone, Copy, Debug, PartialEq, Eq)]
+pub struct Skipped {
+    pub next: Cursor,
+    pub struct_depth: usize,
+    pub count: usize,
 }
 
-fn refused(kind: Kind, place: usize) -> Skipped
-    ensures { result ≡ refused_at_entry kind place }
+// What is judged before any value begins: the start and both depths. Refuses 2, 20.
+// 00 at 0, depth 127, struct depth 65,535, stays at 0; depth 128 is refused: 20 at 0.
+#[tactic(auto, unfolding(tree::specs::Answers::skip_entry, nesting::specs::Structs::depth_entry, wire::specs::Answer::stay_at, wire::specs::Answer::refuse_if))]
+pub fn enter(
+    bytes: &[u8],
+    cursor: Cursor,
+    depth: usize,
+    struct_depth: usize,
+) -> wire::Result<Cursor>
+    ensures { told_moved result ≡ skip_entry depth struct_depth bytes.now cursor.at }
 {
-    Skipped::Refused {
-        refusal: Refusal { kind, place },
-        count: 0,
+    let at = cursor.at;
+    cursor.stay(bytes)?;
+    if 65_535 < struct_depth {
+        return Err(Kind::DepthBeyond.at(at));
     }
+    if 127 < depth {
+        return Err(Kind::DepthBeyond.at(at));
+    }
+    Ok(cursor)
 }
 
 // Passes one value of the type, whole, and counts the values in it. Refuses 2, 20, with count 0; then of each value, as
 // it is met, 10, 12, 11 and what its header or bytes refuse: 1, 5, 6, 7, 8, 9, with the values begun.
 // 03 00 00 00 02 05 06 at 0 as List, depth 2, ends at 7, count 3; depth 1 is refused: 10 at 5, count 2.
+#[tactic(auto, using(crate::proofs::Entry::barred, crate::proofs::Entry::let_in))]
 pub fn skip_till_depth(
     bytes: &[u8],
     cursor: Cursor,
@@ -44,27 +54,18 @@ pub fn skip_till_depth(
     depth: usize,
     struct_depth: usize,
     config: TConfiguration,
-) -> Skipped
+) -> Result<Skipped, Halt>
     ensures { SkipSays config bytes.now cursor.at depth struct_depth field_type result }
 {
-    let at = cursor.at;
-    if bytes.len() < at {
-        return refused(Kind::StartBeyond, at);
+    if let Err(refusal) = enter(bytes, cursor, depth, struct_depth) {
+        return Err(Halt { refusal, count: 0 });
     }
-    if 65_535 < struct_depth {
-        return refused(Kind::DepthBeyond, at);
-    }
-    if 127 < depth {
-        return refused(Kind::DepthBeyond, at);
-    }
-    match skip_value::skip_value(bytes, cursor, field_type, depth, struct_depth, config) {
-        Walked::Passed(next, count) => Skipped::Passed {
-            next,
-            struct_depth,
-            count,
-        },
-        Walked::Refused(refusal, count) => Skipped::Refused { refusal, count },
-    }
+    let passed = skip_value::skip_value(bytes, cursor, field_type, depth, struct_depth, config)?;
+    Ok(Skipped {
+        next: passed.next,
+        struct_depth,
+        count: passed.count,
+    })
 }
 
 // The same at depth 64. Refuses 2, 20 for the struct depth, with count 0; then as `skip_till_depth`.
@@ -75,7 +76,7 @@ pub fn skip(
     field_type: TType,
     struct_depth: usize,
     config: TConfiguration,
-) -> Skipped
+) -> Result<Skipped, Halt>
     ensures { SkipSays config bytes.now cursor.at default_depth struct_depth field_type result }
 {
     skip_till_depth(

@@ -1,3 +1,4 @@
 pub mod Deep
 pub mod Settled
 pub mod Sizes
+pub mod Steps

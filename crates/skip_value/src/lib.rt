@@ -7,16 +7,41 @@ ghost use Rattle.tree.specs.Coding.{fields, items, pairs};
 ghost use Rattle.tree.specs.Answers.{Answers, EachAnswers};
 ghost use Rattle.binary.specs.Binary.{binary};
 ghost use Rattle.leaf.specs.Told.{told_walked};
+ghost use Rattle.skip_value.specs.Then.{Room, then, after};
 
 use codes::TType;
 use codes::shape::Shape;
 use config::configuration::TConfiguration;
-use leaf::Walked;
-use nesting::DepthRead;
-use read::container::{ListRead, MapRead};
-use read::field::FieldRead;
+use leaf::{Halt, Passed, Walked};
 use wire::cursor::Cursor;
 use wire::refusal::Kind;
+
+// What was passed so far and then the next value, whose count comes on top, where it is refused too.
+fn then(so_far: Passed, next: Walked) -> Walked
+    requires { Room so_far.count next }
+    ensures { result ≡ then so_far.count next }
+{
+    match next {
+        Ok(value) => Ok(Passed {
+            next: value.next,
+            count: so_far.count + value.count,
+        }),
+        Err(halt) => Err(Halt {
+            refusal: halt.refusal,
+            count: so_far.count + halt.count,
+        }),
+    }
+}
+
+// What comes after so many values is read: where it is refused, these were begun.
+fn after<T>(so_far: Passed, read: wire::Result<T>) -> Result<T, Halt>
+    ensures { result ≡ after so_far.count read }
+{
+    read.map_err(|refusal| Halt {
+        refusal,
+        count: so_far.count,
+    })
+}
 
 // Passes one value of the type, whole, and counts the values in it, as `skip_till_depth` does once it has judged the start
 // and both depths. Refuses of each value, as it is met, 10, 12 and what its struct begin, its header or its bytes refuse:
@@ -34,62 +59,43 @@ pub fn skip_value(
 ) -> Walked
     ensures { Answers binary config bytes.now cursor.at depth struct_depth field_type (told_walked result) }
 {
-    let start = cursor.at;
     if depth == 0 {
-        return leaf::refused(Kind::SkipDepth, start);
+        return leaf::refused(Kind::SkipDepth, cursor.at);
     }
     match codes::shape::shape_of(field_type) {
         Shape::Fixed(width) => leaf::skip_fixed(bytes, cursor, width),
         Shape::Text => leaf::skip_text(bytes, cursor, config),
-        Shape::Fields => skip_struct(bytes, start, depth, struct_depth, config),
-        Shape::Items => skip_list(bytes, start, depth, struct_depth, config),
-        Shape::Pairs => skip_map(bytes, start, depth, struct_depth, config),
-        Shape::Unfit => leaf::refused(Kind::WrongType, start),
+        Shape::Fields => skip_struct(bytes, cursor, depth, struct_depth, config),
+        Shape::Items => skip_list(bytes, cursor, depth, struct_depth, config),
+        Shape::Pairs => skip_map(bytes, cursor, depth, struct_depth, config),
+        Shape::Unfit => leaf::refused(Kind::WrongType, cursor.at),
     }
 }
 
 #[cycle(skip_list_skip_map_skip_struct_skip_value)]
 fn skip_struct(
     bytes: &[u8],
-    start: usize,
+    cursor: Cursor,
     depth: usize,
     struct_depth: usize,
     config: TConfiguration,
 ) -> Walked
     requires { 0 < depth }
-    ensures { EachAnswers binary fields config bytes.now start depth struct_depth (told_walked result) }
+    ensures { EachAnswers binary fields config bytes.now cursor.at depth struct_depth (told_walked result) }
 {
-    match nesting::read_struct_begin(bytes, Cursor { at: start }, struct_depth, config) {
-        DepthRead::Value(inner, _) => {
-            let mut at = start;
-            let mut count: usize = 1;
-            loop {
-                match read::field::read_field_begin(bytes, Cursor { at }) {
-                    FieldRead::Value(field, first) => {
-                        let field_type = field.field_type;
-                        if field_type.is_stop() {
-                            return match nesting::read_struct_end(bytes, first, inner) {
-                                DepthRead::Value(_, end) => Walked::Passed(end, count),
-                                DepthRead::Refused(late) => Walked::Refused(late, count),
-                            };
-                        }
-                        match skip_value(bytes, first, field_type, depth - 1, inner, config) {
-                            Walked::Passed(next, values) => {
-                                at = next.at;
-                                count = count + values;
-                            }
-                            Walked::Refused(refusal, values) => {
-                                return Walked::Refused(refusal, count + values);
-                            }
-                        }
-                    }
-                    FieldRead::Refused(refusal) => {
-                        return Walked::Refused(refusal, count);
-                    }
-                }
-            }
+    let (inner, _) = nesting::read_struct_begin(bytes, cursor, struct_depth, config)?;
+    let mut so_far = Passed {
+        next: cursor,
+        count: 1,
+    };
+    loop {
+        let (field, first) = after(so_far, read::field::read_field_begin(bytes, so_far.next))?;
+        if field.field_type.is_stop() {
+            let (_, next) = after(so_far, nesting::read_struct_end(bytes, first, inner))?;
+            return Ok(Passed { next, ..so_far });
         }
-        DepthRead::Refused(refusal) => Walked::Refused(refusal, 1),
+        let value = skip_value(bytes, first, field.field_type, depth - 1, inner, config);
+        so_far = then(so_far, value)?;
     }
 }
 
@@ -97,81 +103,69 @@ fn skip_struct(
 #[cycle(skip_list_skip_map_skip_struct_skip_value)]
 fn skip_list(
     bytes: &[u8],
-    start: usize,
+    cursor: Cursor,
     depth: usize,
     struct_depth: usize,
     config: TConfiguration,
 ) -> Walked
     requires { 0 < depth }
-    ensures { EachAnswers binary items config bytes.now start depth struct_depth (told_walked result) }
+    ensures { EachAnswers binary items config bytes.now cursor.at depth struct_depth (told_walked result) }
 {
-    match read::container::read_list_begin(bytes, Cursor { at: start }, config) {
-        ListRead::Value(list, first) => {
-            let element_type = list.element_type;
-            let len = list.size as usize;
-            let mut at = first.at;
-            let mut count: usize = 1;
-            let mut i: usize = 0;
-            while i < len {
-                let cursor = Cursor { at };
-                match skip_value(bytes, cursor, element_type, depth - 1, struct_depth, config) {
-                    Walked::Passed(end, values) => {
-                        at = end.at;
-                        count = count + values;
-                    }
-                    Walked::Refused(refusal, values) => {
-                        return Walked::Refused(refusal, count + values);
-                    }
-                }
-                i = i + 1;
-            }
-            Walked::Passed(Cursor { at }, count)
-        }
-        ListRead::Refused(refusal) => Walked::Refused(refusal, 1),
+    let (list, first) = read::container::read_list_begin(bytes, cursor, config)?;
+    let element_type = list.element_type;
+    let mut so_far = Passed {
+        next: first,
+        count: 1,
+    };
+    for _ in 0..list.size as usize {
+        let element = skip_value(
+            bytes,
+            so_far.next,
+            element_type,
+            depth - 1,
+            struct_depth,
+            config,
+        );
+        so_far = then(so_far, element)?;
     }
+    Ok(so_far)
 }
 
 #[cycle(skip_list_skip_map_skip_struct_skip_value)]
 fn skip_map(
     bytes: &[u8],
-    start: usize,
+    cursor: Cursor,
     depth: usize,
     struct_depth: usize,
     config: TConfiguration,
 ) -> Walked
     requires { 0 < depth }
-    ensures { EachAnswers binary pairs config bytes.now start depth struct_depth (told_walked result) }
+    ensures { EachAnswers binary pairs config bytes.now cursor.at depth struct_depth (told_walked result) }
 {
-    match read::container::read_map_begin(bytes, Cursor { at: start }, config) {
-        MapRead::Value(map, first) => {
-            let key_type = map.key_type;
-            let value_type = map.value_type;
-            let len = map.size as usize;
-            let mut at = first.at;
-            let mut count: usize = 1;
-            let mut i: usize = 0;
-            while i < len {
-                let cursor = Cursor { at };
-                match skip_value(bytes, cursor, key_type, depth - 1, struct_depth, config) {
-                    Walked::Passed(mid, keys) => {
-                        match skip_value(bytes, mid, value_type, depth - 1, struct_depth, config) {
-                            Walked::Passed(next, values) => {
-                                at = next.at;
-                                count = count + keys + values;
-                            }
-                            Walked::Refused(late, values) => {
-                                return Walked::Refused(late, count + keys + values);
-                            }
-                        }
-                    }
-                    Walked::Refused(refusal, keys) => {
-                        return Walked::Refused(refusal, count + keys);
-                    }
-                }
-                i = i + 1;
-            }
-            Walked::Passed(Cursor { at }, count)
-        }
-        MapRead::Refused(refusal) => Walked::Refused(refusal, 1),
+    let (map, first) = read::container::read_map_begin(bytes, cursor, config)?;
+    let mut so_far = Passed {
+        next: first,
+        count: 1,
+    };
+    for _ in 0..map.size as usize {
+        let key = skip_value(
+            bytes,
+            so_far.next,
+            map.key_type,
+            depth - 1,
+            struct_depth,
+            config,
+        );
+        so_far = then(so_far, key)?;
+        let value = skip_value(
+            bytes,
+            so_far.next,
+            map.value_type,
+            depth - 1,
+            struct_depth,
+            config,
+        );
+        so_far = then(so_far, value)?;
     }
+    Ok(so_far)
 }

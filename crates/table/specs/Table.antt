@@ -1,36 +1,36 @@
 -- The cases W1 to W12 of document 01, in one table: what is asked, under the default limits, and the answer that is 01's.
-use Rattle.std.specs.Prelude.{ℕ, ◌≡◌, Bool, true, false, List, [], ◌∷◌, pos}
+use Rattle.std.specs.Prelude.{ℕ, ◌≡◌, Bool, true, false, List, [], ◌∷◌, pos, Result, ℤ, Option, Some}
 use Rattle.wire.specs.Answer.{Answer, gives, refused}
 use Rattle.codes.specs.declared.TType.{TType}
 use Rattle.codes.specs.declared.TType.TheVariants as T
 use Rattle.codes.specs.declared.TMessageType.TheVariants as M
 use Rattle.config.specs.Limits.{default_limits}
 use Rattle.text.specs.Texts.{span, part_found}
+use Rattle.text.specs.declared.Span.{Span}
 use Rattle.message.specs.Messages.{message, message_at, name_of}
 use Rattle.message.specs.declared.TMessageIdentifier.{TMessageIdentifier}
 use Rattle.tree.specs.Answers.{Outcome, ended, cut_off, SkipAnswers}
 use Rattle.binary.specs.Binary.{binary}
 use Rattle.skip.specs.Skips.{told_skipped, SkipSays}
+use Rattle.leaf.specs.declared.Halt.{Halt}
 use Rattle.skip.specs.declared.till_depth.Skipped.{Skipped}
 use Rattle.write_headers.specs.Outputs.{field_write}
-use Rattle.write_headers.specs.declared.field.FieldId.{FieldId}
-use Rattle.write_headers.specs.declared.field.FieldId.TheVariants as Id
-use Rattle.framed.specs.Frames.{Next, frame, frame_at}
+use Rattle.framed.specs.Frames.{frame_at}
 
 pub data Case : Type 0 where
   -- strict or not, the bytes, the name's bytes, the answer
   message_read : Bool → List ℕ → List ℕ → Answer TMessageIdentifier → Case
   -- the type, the depth, the bytes, the answer
   skipped : TType → ℕ → List ℕ → Outcome → Case
-  frame_read : List ℕ → Answer Next → Case
+  frame_read : List ℕ → Answer (Option Span) → Case
   -- the type, the id, the buffer before and after, the place after
-  field_written : TType → FieldId → List ℕ → List ℕ → ℕ → Case
+  field_written : TType → Option ℤ → List ℕ → List ℕ → ℕ → Case
 
 -- What the call's promise comes to is the case's answer. The skip's promise is a relation: it admits the answer, and admits no other
 abbrev pub Settled : Case → Type 0
 Settled (message_read strict s name x) = (message_at strict default_limits.max_string_size s 0 ≡ x) × (part_found s (name_of x) ≡ name)
 Settled (skipped t depth s x) =
-    SkipAnswers binary default_limits s 0 depth 0 t x × ((r : Skipped) → SkipSays default_limits s 0 depth 0 t r → told_skipped r ≡ x)
+    SkipAnswers binary default_limits s 0 depth 0 t x × ((r : Result Skipped Halt) → SkipSays default_limits s 0 depth 0 t r → told_skipped r ≡ x)
 Settled (frame_read s x) = frame_at default_limits.max_frame_size s 0 ≡ x
 Settled (field_written t id old new next) = field_write t id old 0 ≡ gives new next
 
@@ -73,9 +73,9 @@ table =
     -- W10
     ∷ skipped T.String 64 (0xFF ∷ 0xFF ∷ 0xFF ∷ 0xFF ∷ []) (cut_off 6 0 1)
     -- W11
-    ∷ frame_read (0x00 ∷ 0x00 ∷ 0x00 ∷ 0x00 ∷ []) (gives (frame (span 4 4)) 4)
+    ∷ frame_read (0x00 ∷ 0x00 ∷ 0x00 ∷ 0x00 ∷ []) (gives (Some (span 4 4)) 4)
     -- W12
-    ∷ field_written T.Stop (Id.Of (pos 5)) (0xFF ∷ 0xFF ∷ 0xFF ∷ 0xFF ∷ []) (0x00 ∷ 0x00 ∷ 0x05 ∷ 0xFF ∷ []) 3
+    ∷ field_written T.Stop (Some (pos 5)) (0xFF ∷ 0xFF ∷ 0xFF ∷ 0xFF ∷ []) (0x00 ∷ 0x00 ∷ 0x05 ∷ 0xFF ∷ []) 3
     ∷ []
 
 -- of every case in a list

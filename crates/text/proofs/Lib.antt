@@ -1,3 +1,2 @@
 pub mod Layouts
-pub mod Settled
 pub mod Texts

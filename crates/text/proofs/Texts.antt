@@ -1,9 +1,9 @@
--- The cases of a size and of a size with its bytes, each from what leads to it. Assumes nothing.
+-- The cases of a size and of a size with its bytes that are accepted, each from what leads to it. Assumes nothing.
 use Prim.Native.Nat.{ℕ, ◌-◌, ◌<◌, ◌≤◌}
 use native.Mathlib.Omega.{arith}
 use borrow.Author.Tests.{ltb-true, lt-ltb, le-ltb}
 use lib.Dec.{T, ltb}
-use mathlib.Core.Path.{◌≡◌, refl, sym, ◌∙◌, ap}
+use mathlib.Core.Path.{◌≡◌, refl, sym, ◌∙◌}
 use mathlib.Core.Bool.{Bool, true, false, cond}
 use mathlib.Core.List.{List, []}
 use lib.IntN.{ℤ, pos, negsuc, nat_abs}
@@ -11,18 +11,16 @@ use mir.Syntax.{w32, w64}
 use mir.Val.{Fits, to_z}
 use lib.Signed.{lt_z, non_neg}
 use lib.ListN.{length, take, drop}
-use Rattle.wire.specs.Answer.{Answer, gives, refused, refuse_if, and_then, within, item_at}
-use Rattle.wire.proofs.Answers.{first_fault, goes_on, passed, went}
+use Rattle.wire.specs.Answer.{gives, refused, refuse_if, and_then, within, item_at}
+use Rattle.wire.proofs.Answers.{goes_on, passed, went}
 use Rattle.number.specs.BigEndian.{big}
 use Rattle.number.specs.Reads.{number_at, i32_at}
 use Rattle.config.specs.Limits.{above}
-use Rattle.config.specs.declared.limit.Limit.{Limit}
-use Rattle.wire.proofs.Within.{inside}
+use Rattle.std.specs.Prelude.{Option}
 use Rattle.utf8.specs.UpTo.{up_to}
 use Rattle.text.specs.declared.Span.{Span}
 use Rattle.text.specs.declared.Body.{Body}
-use Rattle.text.specs.declared.Body.TheVariants as BodyOf
-use Rattle.text.specs.Texts.{span, size_at, over_number, limited_at, sized_at, part_marked, part_found, bytes_at, string_at, uuid_at}
+use Rattle.text.specs.Texts.{span, size_at, over_number, limited_at, sized_at, part_marked, bytes_at, string_at, uuid_at}
 
 -- a 32-bit number that is not negative is below 2 to the 31st
 below : (n : ℕ) → lt_z (to_z w32 n) (pos 0) ≡ false → nat_abs (to_z w32 n) < 2147483648
@@ -40,15 +38,7 @@ not_negative n h = (go (to_z w32 n) h, record { fits = omega (arith, below n h) 
     go (negsuc n) h = let z : ◌≡◌ {A = ℕ} 0 1 = cc in absurd (omega arith)
 
 module _ (s : List ℕ) (at : ℕ) where
-  pub no_size : {n p : ℕ} → refused n p ≡ i32_at s at → refused n p ≡ size_at s at
-  unfolding size_at
-  no_size e = first_fault _ e
-
   module _ {v : ℤ} {next : ℕ} (e : gives v next ≡ i32_at s at) where
-    pub negative : lt_z v (pos 0) ≡ true → refused 6 at ≡ size_at s at
-    unfolding size_at and_then refuse_if
-    negative h = rw (← e, h)
-
     pub size : lt_z v (pos 0) ≡ false → gives (nat_abs v) next ≡ size_at s at
     unfolding size_at and_then refuse_if
     size h = rw (← e, h)
@@ -63,11 +53,7 @@ module _ (s : List ℕ) (at : ℕ) where
       let same : nat_abs a.value ≡ n = cc b.gave in
       rw same at (rw (sym number) at (below (big i.value) (rw number at b.test)))
 
-module _ (body : Body) (limit : Limit) (s : List ℕ) (at : ℕ) where
-  pub unlimited : {n p : ℕ} → refused n p ≡ size_at s at → refused n p ≡ limited_at body limit s at
-  unfolding limited_at
-  unlimited e = first_fault _ e
-
+module _ (body : Body) (limit : Option ℕ) (s : List ℕ) (at : ℕ) where
   module _ {n next : ℕ} (e : gives n next ≡ size_at s at) where
     pub too_long_lem : above n limit ≡ true → refused (over_number body) at ≡ limited_at body limit s at
     unfolding limited_at and_then refuse_if
@@ -90,32 +76,10 @@ module _ (body : Body) (limit : Limit) (s : List ℕ) (at : ℕ) where
       let same : a.value ≡ n = cc b.gave in
       record { size = b.gave ∙ a.gave; test = rw same at b.test }
 
-  pub unsized : {n p : ℕ} → refused n p ≡ limited_at body limit s at → refused n p ≡ sized_at body limit s at
-  unfolding sized_at
-  unsized e = first_fault _ e
-
   module _ {size first : ℕ} (e : gives size first ≡ limited_at body limit s at) where
-    pub cut : {n p : ℕ} → refused n p ≡ within s first size → refused n p ≡ sized_at body limit s at
-    unfolding sized_at and_then
-    cut f = rw (← e, ← f)
-
     pub whole : {end : ℕ} → gives tt end ≡ within s first size → gives (span first end) end ≡ sized_at body limit s at
     unfolding sized_at and_then
     whole f = rw (← e, ← f)
-
--- a span inside so many bytes
-pub record Lies (n : ℕ) (p : Span) : Type 0 where
-  pub ordered : p.start ≤ p.end
-  pub inside_them : p.end ≤ n
-
-pub sized_lies : (body : Body) (limit : Limit) (s : List ℕ) (at : ℕ) {p : Span} {q : ℕ} → gives p q ≡ sized_at body limit s at → Lies (length s) p
-unfolding sized_at
-sized_lies body limit s at {p} {q} e =
-    let a = went (limited_at body limit s at) _ e in
-    let c = went (within s a.place a.value) _ a.on in
-    let same : p ≡ span a.place c.place = cc c.on in
-    let i = inside s a.place a.value c.gave in
-    rw same (record { ordered = omega arith; inside_them = omega arith })
 
 -- the cases of a span
 module _ (s : List ℕ) (p : Span) where
@@ -135,32 +99,13 @@ module _ (s : List ℕ) (p : Span) where
   unfolding part_marked
   part_inside h = simp (le-ltb _ _ h)
 
--- the part of the span that a read gave
-pub handed : (s : List ℕ) {p : Span} {q : ℕ} {m : Answer Span} {r : List ℕ} → gives p q ≡ m → r ≡ part_marked s p → r ≡ part_found s m
-handed s e h = h ∙ ap (part_found s) e
-
-module _ (limit : Limit) (s : List ℕ) (at : ℕ) where
-  pub no_text : {n p : ℕ} → refused n p ≡ bytes_at limit s at → refused n p ≡ string_at limit s at
-  unfolding string_at
-  no_text e = first_fault _ e
-
+module _ (limit : Option ℕ) (s : List ℕ) (at : ℕ) where
   module _ {p : Span} {next : ℕ} (e : gives p next ≡ bytes_at limit s at) where
-    pub text_taken : take (p.end - p.start) (drop p.start s) ≡ part_marked s p
-    text_taken = part_inside s p (sized_lies BodyOf.Text limit s at e).inside_them
-
-    pub not_utf8_lem : up_to (part_marked s p) < length (part_marked s p) → refused 13 p.start ≡ string_at limit s at
-    unfolding string_at and_then refuse_if
-    not_utf8_lem h = rw (← e, lt-ltb _ _ h)
-
     pub string : length (part_marked s p) ≤ up_to (part_marked s p) → gives p next ≡ string_at limit s at
     unfolding string_at and_then refuse_if
     string h = rw (← e, le-ltb _ _ h)
 
 module _ (s : List ℕ) (at : ℕ) where
-  pub uuid_cut : {n p : ℕ} → refused n p ≡ within s at 16 → refused n p ≡ uuid_at s at
-  unfolding uuid_at
-  uuid_cut e = first_fault _ e
-
   pub uuid : {end : ℕ} → gives tt end ≡ within s at 16 → gives (span at end) end ≡ uuid_at s at
   unfolding uuid_at
   uuid e = goes_on _ e

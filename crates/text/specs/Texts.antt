@@ -1,11 +1,10 @@
 -- Texts: "32-bit length; 1, 6, 7, then body 1. Names and strings then 13; bytes don't."
-use Rattle.std.specs.Prelude.{ℕ, ◌-◌, cond, List, [], ◌++◌, ltb, length, take, drop, pos, nat_abs}
+use Rattle.std.specs.Prelude.{ℕ, ◌-◌, cond, List, [], ◌++◌, ltb, length, take, drop, pos, nat_abs, Option}
 use Rattle.std.specs.Int.Signed.{lt_z}
 use Rattle.wire.specs.Answer.{Answer, gives, refused, refuse_if, and_then, within}
 use Rattle.number.specs.BigEndian.{bytes_of}
 use Rattle.number.specs.Reads.{i32_at}
 use Rattle.config.specs.Limits.{above}
-use Rattle.config.specs.declared.limit.Limit.{Limit}
 use Rattle.utf8.specs.UpTo.{not_utf8}
 use Rattle.text.specs.declared.Span.{Span}
 use Rattle.text.specs.declared.Body.{Body}
@@ -30,13 +29,13 @@ over_number BodyOf.Text = 7
 over_number BodyOf.Frame = 18
 
 -- a size within its limit, for what it counts the bytes of
-unfoldable pub limited_at : Body → Limit → List ℕ → ℕ → Answer ℕ
+unfoldable pub limited_at : Body → Option ℕ → List ℕ → ℕ → Answer ℕ
 limited_at body limit s at =
     and_then (size_at s at) λ size next.
     refuse_if (above size limit) (over_number body) at (gives size next)
 
 -- such a size, then as many bytes; what is given is where they stand
-unfoldable pub sized_at : Body → Limit → List ℕ → ℕ → Answer Span
+unfoldable pub sized_at : Body → Option ℕ → List ℕ → ℕ → Answer Span
 sized_at body limit s at =
     and_then (limited_at body limit s at) λ size first.
     and_then (within s first size) λ _ end.
@@ -52,11 +51,11 @@ part_found s (gives p next) = part_marked s p
 part_found s (refused n p) = []
 
 -- bytes: no more than that
-abbrev pub bytes_at : Limit → List ℕ → ℕ → Answer Span
+abbrev pub bytes_at : Option ℕ → List ℕ → ℕ → Answer Span
 bytes_at = sized_at BodyOf.Text
 
 -- names and strings: then 13, at the text's first byte, where it is not UTF-8 to its end
-unfoldable pub string_at : Limit → List ℕ → ℕ → Answer Span
+unfoldable pub string_at : Option ℕ → List ℕ → ℕ → Answer Span
 string_at limit s at =
     and_then (bytes_at limit s at) λ text next.
     refuse_if (not_utf8 (part_marked s text)) 13 text.start

@@ -1,5 +1,6 @@
 -- More room, header by header: what a header gives it goes on giving, and what it refuses it goes on refusing unless the refusal names
 -- what was given room. Assumes nothing.
+use Rattle.std.specs.Prelude.{Option}
 use Prim.Native.Nat.{ℕ, ◌+◌, ◌-◌, ◌≤◌}
 use mathlib.Core.Path.{◌≡◌, refl, sym, ap, subst, ◌∙◌}
 use mathlib.Core.Bool.{Bool, true, false}
@@ -14,7 +15,6 @@ use Rattle.wire.specs.Answer.{Answer, gives, refused, refuse_if, and_then, mappe
 use Rattle.wire.proofs.Within.{inside}
 use Rattle.number.specs.Reads.{number_at}
 use Rattle.config.specs.Limits.{above, reached, Raised}
-use Rattle.config.specs.declared.limit.Limit.{Limit}
 use Rattle.config.specs.declared.configuration.TConfiguration.{TConfiguration}
 use Rattle.config.proofs.Room.{still_within, still_below, reached_later}
 use Rattle.nesting.specs.Structs.{struct_begin_at}
@@ -56,7 +56,7 @@ module _ (K : ℕ → Type 0) where
   grows_either false false c k at rest f t = grows_same _
 
   -- a test against a limit that was raised or removed, of which a refusal says that it was kept
-  pub grows_limit : {A : Type 0} (n : ℕ) (l l' : Limit) (k at : ℕ) (rest rest' : Answer A) → Raised l l' → (K k → l ≡ l') → Grows K rest rest'
+  pub grows_limit : {A : Type 0} (n : ℕ) (l l' : Option ℕ) (k at : ℕ) (rest rest' : Answer A) → Raised l l' → (K k → l ≡ l') → Grows K rest rest'
       → Grows K (refuse_if (above n l) k at rest) (refuse_if (above n l') k at rest')
   grows_limit n l l' k at rest rest' up keep g =
       grows_if (above n l) (above n l') k at rest rest' (still_within n l l' up) (λ h t. ap (above n) (sym (keep h)) ∙ t) (λ t. g)
@@ -112,7 +112,7 @@ module _ (K : ℕ → Type 0) (s x : List ℕ) (short : K 1 → x ≡ []) where
       (λ b q e. grows_same K _)
 
 -- an 11 whose limit is not reached below 65,535 comes at that depth
-by_cap : (sd : ℕ) (o w : Limit) → (o ≡ w) ⊎ (reached 65534 o ≡ false) → reached sd o ≡ true → reached sd w ≡ false → sd ≤ 65535 → eqb sd 65535 ≡ true
+by_cap : (sd : ℕ) (o w : Option ℕ) → (o ≡ w) ⊎ (reached 65534 o ≡ false) → reached sd o ≡ true → reached sd w ≡ false → sd ≤ 65535 → eqb sd 65535 ≡ true
 by_cap sd o w (inl e) t u h = clash (cc (sym t ∙ ap (reached sd) e ∙ u))
 by_cap sd o w (inr f) t u h = eq-eqb sd 65535 (omega (arith, reached_later 65534 sd o f t))
 

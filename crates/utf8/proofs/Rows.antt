@@ -1,65 +1,23 @@
 -- Rows of ranges, and the bytes that fit them. Assumes nothing.
-use Prim.Native.Nat.{ℕ, zero, suc, ◌+◌, ◌-◌, ◌≤◌, ◌<◌, zero-le, suc-le-suc}
-use mathlib.Core.Path.{◌≡◌, refl, sym, ap}
-use mathlib.Core.Bool.{Bool, true, false, ◌&&◌, and-true, and_assoc, and-eq-true_iff, false≢true}
+use Prim.Native.Nat.{ℕ, zero, suc, ◌≤◌, zero-le, suc-le-suc}
+use mathlib.Core.Path.{◌≡◌, refl, ap}
+use mathlib.Core.Bool.{true, ◌&&◌, and-eq-true_iff, false≢true}
 use mathlib.Core.List.{List, [], ◌∷◌, ◌++◌}
 use native.Mathlib.Omega.{arith}
 use borrow.Author.Tests.{leb-true, le-leb, lt-leb}
 use lib.Dec.{leb}
-use lib.ListN.{length, take, drop, get_or, length-drop, drop_of_length-le}
-use lib.Seq.{drop-cons, drop-drop}
+use lib.ListN.{length, take, get_or}
 use Rattle.utf8.specs.UpTo.{fits, width}
 
 -- a least and a greatest value for each byte
 abbrev pub Row : Type 0
 Row = List (ℕ × ℕ)
 
-fits-append : (row last : Row) (l : List ℕ) → fits (row ++ last) l ≡ (fits row l && fits last (drop (length row) l))
-unfolding fits
-fits-append [] last l = refl
-fits-append (r ∷ row) last [] = refl
-fits-append (r ∷ row) last (b ∷ l) = rw (fits-append row last l) (sym (and_assoc (leb r.0 b && leb b r.1) (fits row l) _))
-
 pub room : (row : Row) (l : List ℕ) → fits row l ≡ true → length row ≤ length l
 unfolding fits
 room [] l e = zero-le
 room (r ∷ row) [] e = absurd (false≢true e)
 room (r ∷ row) (b ∷ l) e = suc-le-suc (room row l ((and-eq-true_iff (leb r.0 b && leb b r.1) (fits row l)).0 e).1)
-
--- ---- for the code
-
--- a byte at a place, and a row of two parts from there on
-module _ (s : List ℕ) (at : ℕ) where
-  pub a_byte : (r : ℕ × ℕ) → at < length s → (leb r.0 (get_or s at 0) && leb (get_or s at 0) r.1) ≡ fits (r ∷ []) (drop at s)
-  unfolding fits
-  a_byte r h = rw (drop-cons s at 0) (sym (and-true _))
-
-  pub no_byte : (r : ℕ × ℕ) → length s ≤ at → false ≡ fits (r ∷ []) (drop at s)
-  unfolding fits
-  no_byte r h = rw drop_of_length-le
-
-  pub inside : (row : Row) → true ≡ fits row (drop at s) → length row ≤ length s - at
-  inside row e = rw (length-drop at s) at (room row (drop at s) (sym e))
-
-  pub both : (row last : Row) {x : Bool} → true ≡ fits row (drop at s) → x ≡ fits last (drop (at + length row) s) → x ≡ fits (row ++ last) (drop at s)
-  both row last e f = rw (fits-append row last (drop at s), ← e, drop-drop) f
-
-  pub not_both : (row last : Row) → false ≡ fits row (drop at s) → false ≡ fits (row ++ last) (drop at s)
-  not_both row last e = rw (fits-append row last (drop at s), ← e)
-
--- a table row by row
-module _ (row : Row) (rows : List Row) (l : List ℕ) {x : Bool} (e : x ≡ fits row l) where
-  pub hit : x ≡ true → width (row ∷ rows) l ≡ length row
-  unfolding width
-  hit f = rw (← e, f)
-
-  pub miss : x ≡ false → width (row ∷ rows) l ≡ width rows l
-  unfolding width
-  miss f = rw (← e, f)
-
-pub no_row : (l : List ℕ) → width [] l ≡ 0
-unfolding width
-no_row l = refl
 
 -- ---- what holds of all bytes that fit a row
 

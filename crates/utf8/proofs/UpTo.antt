@@ -1,5 +1,5 @@
 -- `up_to` is as `ValidUpTo` says, and no other place is. Assumes nothing.
-use Prim.Native.Nat.{ℕ, zero, suc, ◌+◌, ◌≤◌, zero-le}
+use Prim.Native.Nat.{ℕ, zero, suc, ◌+◌, ◌≤◌, ◌<◌, zero-le}
 use mathlib.Core.Path.{◌≡◌, refl, sym, ◌∙◌, ap}
 use mathlib.Core.List.{List, ◌++◌, append_assoc, append-nil}
 use native.Mathlib.Omega.{arith}
@@ -11,7 +11,7 @@ use Rattle.utf8.specs.UpTo.{table, width, widths, up_to}
 use Rattle.utf8.proofs.Chars.{stands, found_char, some}
 
 -- the width is 0 where no character stands, and only there
-pub nothing : (l : List ℕ) → width table l ≡ 0 → Nothing l
+nothing : (l : List ℕ) → width table l ≡ 0 → Nothing l
 nothing l e k h c =
     let w : width table l ≡ length (take k l) = rw take-append-drop at (found_char (drop k l) c) in
     omega (arith, some (take k l) c)
@@ -89,3 +89,21 @@ up_to_only s r v =
     let q = passed v.text (drop r s) (length s) (omega (arith, v.inside)) in
     let e : widths (length s) s ≡ length (take r s) + widths q.left (drop r s) = rw take-append-drop at q.sum in
     omega (arith, stays q.left (drop r s) (no_width (drop r s) v.stop))
+
+-- ---- for the code
+
+-- the character at the front is within the text
+pub within : (s : List ℕ) → width table s ≤ length s
+within s = (stands s).0
+
+-- where no character stands at the front, nothing is well formed
+pub no_char : (s : List ℕ) → width table s ≡ 0 → up_to s ≡ 0
+unfolding up_to
+no_char s e = stays (length s) s e
+
+-- where one does, it is passed, and the rest counts from there on
+pub past_char : (s : List ℕ) (w : ℕ) → 0 < w → width table s ≡ w → up_to (drop w s) + w ≡ up_to s
+past_char s w h e =
+    let c : Char (take w s) = rw e at ((stands s).1 (λ z. omega arith)) in
+    let v : ValidUpTo s (w + up_to (drop w s)) = after s w _ (omega (arith, within s)) c (up_to-valid (drop w s)) in
+    omega (arith, up_to_only s _ v)

@@ -1,11 +1,10 @@
 -- Why no two answers meet a promise: an answer can be had back from what it tells. Assumes nothing.
 use mathlib.Core.Path.{◌≡◌, refl, sym, ◌∙◌, ap}
+use Rattle.std.specs.Prelude.{Result, Ok, Err}
 use Rattle.wire.specs.Answer.{Answer, gives, refused}
-use Rattle.wire.specs.Refusals.{told_moved}
+use Rattle.wire.specs.Refusals.{told, told_moved}
 use Rattle.wire.specs.declared.refusal.Refusal.{Refusal}
 use Rattle.wire.specs.declared.cursor.Cursor.{Cursor}
-use Rattle.wire.specs.declared.cursor.Moved.{Moved}
-use Rattle.wire.specs.declared.cursor.Moved.TheVariants as M
 use Rattle.wire.proofs.Refusals.{refusal_of, told_back}
 
 -- for any kind of answer E that tells a T
@@ -17,21 +16,27 @@ module _ {E T : Type 0} (told : E → T) (back : T → E) (same : (e : E) → ba
   pub settled : {a b : E} {m : T} → told a ≡ m → told b ≡ m → a ≡ b
   settled p q = unique (p ∙ sym q)
 
--- an answer of a value with the moved cursor, or a refusal, from what it tells
-module _ {E A : Type 0} (value : A → Cursor → E) (turned : Refusal → E) where
-  unfoldable pub back : Answer A → E
-  back (gives v p) = value v (record { at = p })
-  back (refused n p) = turned (refusal_of n p)
+-- an answer, from what it tells: of a value with the moved cursor, and of the moved cursor alone
+unfoldable pub back : {A : Type 0} → Answer A → Result (A × Cursor) Refusal
+back (gives v p) = Ok (v, record { at = p })
+back (refused n p) = Err (refusal_of n p)
 
-  -- such an answer is settled by what it tells, if each of its values is one of the two
-  module _ (told : E → Answer A) (same : (e : E) → back (told e) ≡ e) where
-    pub cursor_settled : {a b : E} {m : Answer A} → told a ≡ m → told b ≡ m → a ≡ b
-    cursor_settled = settled told back same
+moved_back : Answer Unit → Result Cursor Refusal
+moved_back (gives u p) = Ok (record { at = p })
+moved_back (refused n p) = Err (refusal_of n p)
 
-pub moved_settled : {a b : Moved} {m : Answer Unit} → told_moved a ≡ m → told_moved b ≡ m → a ≡ b
+pub told_settled : {A : Type 0} {a b : Result (A × Cursor) Refusal} {m : Answer A} → told a ≡ m → told b ≡ m → a ≡ b
 unfolding back
-moved_settled = cursor_settled (λ (u : Unit). M.To) M.Refused told_moved same
+told_settled {A} = settled told back same
   where
-    same : (m : Moved) → back (λ (u : Unit). M.To) M.Refused (told_moved m) ≡ m
-    same (M.To c) = refl
-    same (M.Refused x) = ap M.Refused (told_back x)
+    same : (r : Result (A × Cursor) Refusal) → back (told r) ≡ r
+    same (Ok r) = refl
+    same (Err x) = ap Err (told_back x)
+
+pub moved_settled : {a b : Result Cursor Refusal} {m : Answer Unit} → told_moved a ≡ m → told_moved b ≡ m → a ≡ b
+unfolding moved_back
+moved_settled = settled told_moved moved_back same
+  where
+    same : (r : Result Cursor Refusal) → moved_back (told_moved r) ≡ r
+    same (Ok c) = refl
+    same (Err x) = ap Err (told_back x)

@@ -1,12 +1,12 @@
--- The cases of `within`, each from the tests that lead to it, and what an accepted one tells. Assumes nothing.
+-- What an accepted `within` tells, and the item at a place. Assumes nothing.
 use mathlib.Core.Path.{◌≡◌}
 use mathlib.Core.List.{List}
-use Prim.Native.Nat.{ℕ, ◌+◌, ◌-◌, ◌<◌, ◌≤◌}
+use Prim.Native.Nat.{ℕ, ◌+◌, ◌-◌, ◌≤◌}
 use native.Mathlib.Omega.{arith}
-use borrow.Author.Tests.{lt-ltb, le-ltb, ltb-false}
+use borrow.Author.Tests.{le-ltb, ltb-false}
 use lib.Dec.{ltb}
-use lib.ListN.{length}
-use Rattle.wire.specs.Answer.{gives, refused, refuse_if, within, stay_at}
+use lib.ListN.{length, take, drop}
+use Rattle.wire.specs.Answer.{gives, refused, refuse_if, and_then, within, item_at}
 use Rattle.wire.proofs.Answers.{passed}
 
 -- so many bytes lie inside, and the place after them is as many on
@@ -15,14 +15,6 @@ pub record Inside (s : List ℕ) (at w p : ℕ) : Type 0 where
   pub next : p ≡ at + w
 
 module _ (s : List ℕ) (at w : ℕ) where
-  pub beyond : length s < at → refused 2 at ≡ within s at w
-  unfolding within refuse_if
-  beyond h = simp (lt-ltb _ _ h)
-
-  pub short : at ≤ length s → length s - at < w → refused 1 at ≡ within s at w
-  unfolding within refuse_if
-  short h i = simp (le-ltb _ _ h, lt-ltb _ _ i)
-
   pub whole : at ≤ length s → w ≤ length s - at → gives tt (at + w) ≡ within s at w
   unfolding within refuse_if
   whole h i = simp (le-ltb _ _ h, le-ltb _ _ i)
@@ -34,10 +26,11 @@ module _ (s : List ℕ) (at w : ℕ) where
       let b = passed (ltb (length s - at) w) 1 at (gives tt (at + w)) a.gave in
       record { room = omega (arith, ltb-false (length s) at a.test, ltb-false (length s - at) w b.test); next = cc b.gave }
 
-  pub stay_beyond : length s < at → refused 2 at ≡ stay_at s at
-  unfolding stay_at refuse_if
-  stay_beyond h = rw (lt-ltb _ _ h)
+  -- the item itself
+  pub no_item : {n p : ℕ} → refused n p ≡ within s at w → refused n p ≡ item_at s at w
+  unfolding item_at and_then
+  no_item e = rw (← e)
 
-  pub stays : at ≤ length s → gives tt at ≡ stay_at s at
-  unfolding stay_at refuse_if
-  stays h = rw (le-ltb _ _ h)
+  pub item_there : {p : ℕ} {bs : List ℕ} → gives tt p ≡ within s at w → bs ≡ take w (drop at s) → gives bs p ≡ item_at s at w
+  unfolding item_at and_then
+  item_there e h = rw (h, ← e)

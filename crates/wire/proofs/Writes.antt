@@ -1,4 +1,4 @@
--- The cases of a write, what a leaf leaves in the whole buffer, and that no two answers meet a writer's promise. Assumes nothing.
+-- Where there is room, what a leaf leaves in the whole buffer, and that no two answers meet a writer's promise. Assumes nothing.
 use mathlib.Core.Path.{◌≡◌, refl, sym, ap, ◌∙◌}
 use mathlib.Core.Bool.{Bool, true, false}
 use mathlib.Core.List.{List, [], ◌++◌, append-nil, append_assoc}
@@ -10,28 +10,13 @@ use borrow.Rule.Slice.PartMut.{put_mid}
 use lib.Dec.{ltb}
 use lib.ListN.{length, take, drop, length-append, length-take, length-drop, drop_of_length-le, take-append-drop}
 use lib.Seq.{take_all, take_at, drop-drop, drop-append-add}
+use Rattle.std.specs.Prelude.{Result}
 use Rattle.wire.specs.Answer.{Answer, gives, refused, refuse_if, and_then}
-use Rattle.wire.specs.Refusals.{told_moved, told_refusal}
-use Rattle.wire.specs.Writes.{room_for, laid, Output, puts, fails, fail_if, unless_fails, write_at, left, Wrote, in_front}
+use Rattle.wire.specs.Writes.{room_for, laid, Output, puts, fails, fail_if, unless_fails, write_at, Wrote, in_front}
 use Rattle.wire.specs.declared.cursor.Cursor.{Cursor}
-use Rattle.wire.specs.declared.cursor.Moved.{Moved}
-use Rattle.wire.specs.declared.cursor.Moved.TheVariants as M
 use Rattle.wire.specs.declared.refusal.Refusal.{Refusal}
 use Rattle.wire.proofs.Answers.{Passed, passed}
 use Rattle.wire.proofs.Unique.{moved_settled}
-
-module _ (n at w : ℕ) where
-  pub no_place : n < at → refused 2 at ≡ room_for n at w
-  unfolding room_for refuse_if
-  no_place h = simp (lt-ltb _ _ h)
-
-  pub full : at ≤ n → n - at < w → refused 15 at ≡ room_for n at w
-  unfolding room_for refuse_if
-  full h i = simp (le-ltb _ _ h, lt-ltb _ _ i)
-
-  pub room : at ≤ n → w ≤ n - at → gives tt (at + w) ≡ room_for n at w
-  unfolding room_for refuse_if
-  room h i = simp (le-ltb _ _ h, le-ltb _ _ i)
 
 -- where there is room, the place after and both tests are known
 pub record Room (n at w next : ℕ) : Type 0 where
@@ -49,15 +34,12 @@ has_room n at w f =
 pub room_fits : (n at w : ℕ) {next : ℕ} → gives tt next ≡ room_for n at w → at + w ≤ n
 room_fits n at w f = let i = has_room n at w f in omega (arith, ltb-false n at i.inside, ltb-false (n - at) w i.enough)
 
--- a write that refuses, for whatever reason, leaves the buffer as it was
-pub refuses_write : {old : List ℕ} {x : Refusal} {write : Answer (List ℕ)} → told_refusal x ≡ write → Wrote (M.Refused x) old old write
-unfolding left
-refuses_write e = record { answer = rw (← e); buffer = rw (← e) }
+-- no room is asked for past the end
+no_place : (n at w : ℕ) → n < at → refused 2 at ≡ room_for n at w
+unfolding room_for refuse_if
+no_place n at w h = simp (lt-ltb _ _ h)
 
-pub wrote : {new old : List ℕ} {c : Cursor} {write : Answer (List ℕ)} → gives new c.at ≡ write → Wrote (M.To c) new old write
-unfolding left
-wrote e = record { answer = rw (← e); buffer = rw (← e) }
-
+-- the cases of a write
 module _ (output : Output) (out : List ℕ) (at : ℕ) where
   pub write_beyond : length out < at → refused 2 at ≡ write_at output out at
   unfolding write_at refuse_if
@@ -150,14 +132,6 @@ pub laid_none : (out : List ℕ) (at : ℕ) → laid [] out at ≡ out
 unfolding laid
 laid_none out at = simp (append-nil, add-zero) (take-append-drop at out)
 
-pub nothing_put : (output : Output) (out : List ℕ) (at : ℕ) {r : Moved} → puts [] ≡ output → told_moved r ≡ room_for (length out) at 0
-    → Wrote r out out (write_at output out at)
-nothing_put output out at {r} e t = go r t
-  where
-    go : (r : Moved) → told_moved r ≡ room_for (length out) at 0 → Wrote r out out (write_at output out at)
-    go (M.To c) t = wrote (writes output out at 0 e refl t (sym (laid_none out at)))
-    go (M.Refused x) t = refuses_write (write_no_room output out at 0 e refl t)
-
 -- a writer's promise settles its answer and the buffer
-pub wrote_settled : {r r' : Moved} {new new' old : List ℕ} {write : Answer (List ℕ)} → Wrote r new old write → Wrote r' new' old write → (r ≡ r') × (new ≡ new')
+pub wrote_settled : {r r' : Result Cursor Refusal} {new new' old : List ℕ} {write : Answer (List ℕ)} → Wrote r new old write → Wrote r' new' old write → (r ≡ r') × (new ≡ new')
 wrote_settled p q = (moved_settled p.answer q.answer, p.buffer ∙ sym q.buffer)

@@ -1,8 +1,9 @@
 -- What a write into a lent buffer comes to: 01's "Writing and frames", over what the call would put down.
-use Rattle.std.specs.Prelude.{ℕ, ◌+◌, ◌-◌, ◌≡◌, Bool, true, false, cond, List, ◌++◌, length, take, drop, ltb}
+use Rattle.std.specs.Prelude.{ℕ, ◌+◌, ◌-◌, ◌≡◌, Bool, true, false, cond, List, ◌++◌, length, take, drop, ltb, Result}
 use Rattle.wire.specs.Answer.{Answer, gives, refused, refuse_if, and_then, judged, entry, entry_of}
 use Rattle.wire.specs.Refusals.{told_moved}
-use Rattle.wire.specs.declared.cursor.Moved.{Moved}
+use Rattle.wire.specs.declared.cursor.Cursor.{Cursor}
+use Rattle.wire.specs.declared.refusal.Refusal.{Refusal}
 
 -- "room is asked for the call's whole output at once, and 15 is given exactly when it needs more bytes than remain": n is the buffer's length, w the bytes wanted from the place on
 unfoldable pub room_for : ℕ → ℕ → ℕ → Answer Unit
@@ -45,7 +46,7 @@ left (gives new next) old = new
 left (refused n p) old = old
 
 -- what a writer promises: its answer, without the buffer, and every byte of the buffer
-pub record Wrote (r : Moved) (new old : List ℕ) (write : Answer (List ℕ)) : Type 0 where
+pub record Wrote (r : Result Cursor Refusal) (new old : List ℕ) (write : Answer (List ℕ)) : Type 0 where
   pub answer : told_moved r ≡ judged write
   pub buffer : new ≡ left write old
 

@@ -1,9 +1,12 @@
 // A refusal: which of document 01's faults, and where.
-ghost use Rattle.std.specs.Prelude.{◌≡◌};
-ghost use Rattle.wire.specs.Refusals.{kind_number};
+ghost use Rattle.std.specs.Prelude.{◌≡◌, Some};
+ghost use Rattle.wire.specs.Refusals.{kind_number, refusal_text};
+
+use std::error::Error;
+use std::fmt;
 
 // In the order of 01's table, so that the first is 1.
-#[derive(Clone, Copy)]
+#[derive(Clone, Copy, Debug, PartialEq, Eq)]
 pub enum Kind {
     ShortInput,
     StartBeyond,
@@ -27,19 +30,29 @@ pub enum Kind {
     DepthBeyond,
 }
 
-#[derive(Clone, Copy)]
+#[derive(Clone, Copy, Debug, PartialEq, Eq)]
 pub struct Refusal {
     pub kind: Kind,
     pub place: usize,
 }
 
 impl Kind {
-    // 01's number of this kind. Refuses nothing.
-    // ShortInput gives 1; DepthBeyond gives 20.
-    pub fn number(self) -> u8
-        ensures { result ≡ kind_number self }
+    // The refusal of this kind at a place. Refuses nothing.
+    // ShortInput and 5 give 1 at 5.
+    pub fn at(self, place: usize) -> Refusal
+        ensures { result ≡ record { kind = self; place = place } }
     {
-        match self {
+        Refusal { kind: self, place }
+    }
+}
+
+// 01's number of a kind. Refuses nothing.
+// ShortInput gives 1; DepthBeyond gives 20.
+impl From<Kind> for u8 {
+    ghost from_gives = { λ kind number. number ≡ kind_number kind };
+
+    fn from(kind: Kind) -> u8 {
+        match kind {
             Kind::ShortInput => 1,
             Kind::StartBeyond => 2,
             Kind::BadVersion => 3,
@@ -63,3 +76,17 @@ impl Kind {
         }
     }
 }
+
+// A refusal's words: its number and its place. Refuses nothing.
+// ShortInput at 5 prints "refused 1 at 5".
+impl fmt::Display for Refusal {
+    ghost output = { λ refusal. Some (refusal_text refusal) };
+
+    fn fmt<W: fmt::Write>(&self, f: &mut fmt::Formatter<W>) -> fmt::Result {
+        let number = u8::from(self.kind);
+        let place = self.place;
+        write!(f, "refused {number} at {place}")
+    }
+}
+
+impl Error for Refusal {}

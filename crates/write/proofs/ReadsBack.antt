@@ -1,5 +1,6 @@
 -- What is written reads back, over any bytes before and after: each kind by the definition of its read, at the place where it was written, to the
 -- place where the write ended. Not so, by 01: a Stop with an id, a negative size, a NaN's payload as a float. Assumes nothing.
+use Rattle.std.specs.Prelude.{Option}
 use Prim.Native.Nat.{ℕ, ◌+◌, ◌%◌, ◌^◌, ◌≤◌}
 use mathlib.Core.Path.{◌≡◌, refl, sym, ap, ◌∙◌}
 use mathlib.Core.Bool.{Bool, true, false, not}
@@ -22,7 +23,6 @@ use Rattle.number.specs.BigEndian.{big, bytes_of}
 use Rattle.number.specs.Reads.{number_at, byte_at, bool_at, i8_at, i16_at, i32_at, i64_at, double_at}
 use Rattle.number.proofs.Widths.{written, signed_written, length-bytes_of}
 use Rattle.config.specs.Limits.{above}
-use Rattle.config.specs.declared.limit.Limit.{Limit}
 use Rattle.text.specs.Texts.{span, sized_layout, part_marked, sized_at, bytes_at, string_at, uuid_at}
 use Rattle.text.proofs.Texts as texts
 use Rattle.text.specs.declared.Body.{Body}
@@ -63,7 +63,7 @@ marked : {s b : List ℕ} {at e : ℕ} → Part s at e b → part_marked s (span
 marked {s} {b} {at} {e} p = sym (texts.part_inside s (span at e) p.within) ∙ p.bytes
 
 -- a size and its bytes within the reader's limit
-module _ {s : List ℕ} {at e : ℕ} (limit : Limit) (b : List ℕ) (below : above (length b) limit ≡ false) (p : Part s at e (sized_layout b)) where
+module _ {s : List ℕ} {at e : ℕ} (limit : Option ℕ) (b : List ℕ) (below : above (length b) limit ≡ false) (p : Part s at e (sized_layout b)) where
   -- with any number for the limit
   pub sized_found : (body : Body) → length b ≤ 2147483647 → Found s b (sized_at body limit s at) e
   sized_found body h =
@@ -125,7 +125,7 @@ module _ (out : List ℕ) (at : ℕ) {new : List ℕ} {next : ℕ} where
       record { place = span at next; gave = texts.uuid new at (part_within id 16 l p); bytes = marked p }
 
   -- bytes and strings, within the reader's limit
-  module _ (limit : Limit) (b : List ℕ) (below : above (length b) limit ≡ false) where
+  module _ (limit : Option ℕ) (b : List ℕ) (below : above (length b) limit ≡ false) where
     pub bytes_back : gives new next ≡ bytes_write b out at → Found new b (bytes_at limit new at) next
     bytes_back e =
         let h = is_short b at out e in

@@ -3,5 +3,6 @@
 // bools and numbers are in `write_scalars`.
 #![tactic(auto)]
 
+pub mod item;
 pub mod string;
 pub mod structs;

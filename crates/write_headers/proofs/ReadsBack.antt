@@ -1,4 +1,5 @@
 -- Headers that were written read back, over any bytes before and after. Assumes nothing.
+use Rattle.std.specs.Prelude.{Some, None}
 use Prim.Native.Nat.{ℕ, ◌+◌}
 use mathlib.Core.Path.{◌≡◌, refl, sym, ap, ◌∙◌}
 use mathlib.Core.Bool.{false}
@@ -21,8 +22,6 @@ use Rattle.tree.specs.Sizes.{SizeFits}
 use Rattle.binary.specs.Layouts.{Readable}
 use Rattle.binary.proofs.Reading.{field_reads, stop_reads, list_reads, map_reads}
 use Rattle.write_headers.specs.Outputs.{field_write, stop_write, list_write, map_write}
-use Rattle.write_headers.specs.declared.field.FieldId.TheVariants as Id
-use Rattle.write_headers.specs.declared.container.MapType.TheVariants as OfMap
 use Rattle.write_headers.proofs.Outputs.{with_id, stop_alone, both_types}
 
 -- a type's byte is that of the type it is read as
@@ -34,7 +33,7 @@ reads_as t = rw (same_byte t) (type_written t)
 
 module _ (out : List ℕ) (at : ℕ) {new : List ℕ} {next : ℕ} where
   -- headers: a type comes back as its byte reads
-  pub field_back : (t : TType) (id : ℤ) → SFits w16 id → is_stop t ≡ false → gives new next ≡ field_write t (Id.Of id) out at
+  pub field_back : (t : TType) (id : ℤ) → SFits w16 id → is_stop t ≡ false → gives new next ≡ field_write t (Some id) out at
       → gives (field (as_read t) id) next ≡ field_at new at
   field_back t id f s e =
       let p = stands _ out at (with_id t at refl) e in
@@ -46,7 +45,7 @@ module _ (out : List ℕ) (at : ℕ) {new : List ℕ} {next : ℕ} where
   pub stop_back : gives new next ≡ stop_write out at → gives (field T.Stop (pos 0)) next ≡ field_at new at
   stop_back e = stop_reads (stands _ out at refl e)
 
-  pub stop_field_back : gives new next ≡ field_write T.Stop Id.Absent out at → gives (field T.Stop (pos 0)) next ≡ field_at new at
+  pub stop_field_back : gives new next ≡ field_write T.Stop None out at → gives (field T.Stop (pos 0)) next ≡ field_at new at
   stop_field_back e = stop_reads (stands _ out at (stop_alone T.Stop at refl refl) e)
 
   pub list_back : (c : TConfiguration) (t : TType) (n : ℕ) → SizeFits c (least_size (as_read t)) n
@@ -58,8 +57,8 @@ module _ (out : List ℕ) (at : ℕ) {new : List ℕ} {next : ℕ} where
   set_back c t n f e = headers.a_set c new at (list_back c t n f e)
 
   pub map_back : (c : TConfiguration) (k v : TType) (n : ℕ) → SizeFits c (least_size (as_read k) + least_size (as_read v)) n
-      → gives new next ≡ map_write (OfMap.Of k) (OfMap.Of v) (pos n) out at
+      → gives new next ≡ map_write (Some k) (Some v) (pos n) out at
       → gives (map (as_read k) (as_read v) n) next ≡ map_at c new at
   map_back c k v n f e =
-      let p = stands _ out at (both_types (pos n) at (OfMap.Of v) refl refl) e in
+      let p = stands _ out at (both_types (pos n) at (Some v) refl refl) e in
       map_reads c (as_read k) (as_read v) n (reads_as k) (reads_as v) f (rw (same_byte k, same_byte v) p)

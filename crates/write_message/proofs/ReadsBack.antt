@@ -1,4 +1,5 @@
 -- A message that is written reads back: a strict one by any reader, "a legacy message needs a non-strict reader". Assumes nothing.
+use Rattle.std.specs.Prelude.{Option}
 use Prim.Native.Nat.{ℕ, ◌+◌, ◌<◌, ◌≤◌}
 use mathlib.Core.Path.{◌≡◌, refl, sym, ap, ◌∙◌}
 use mathlib.Core.Bool.{Bool, true, false}
@@ -16,7 +17,6 @@ use Rattle.number.specs.BigEndian.{big, bytes_of}
 use Rattle.number.specs.Reads.{byte_at, i32_at}
 use Rattle.number.proofs.Widths.{signed_written, length-bytes_of}
 use Rattle.config.specs.Limits.{above}
-use Rattle.config.specs.declared.limit.Limit.{Limit}
 use Rattle.text.specs.Texts.{sized_layout}
 use Rattle.text.specs.declared.Span.{Span}
 use Rattle.message.specs.Layouts.{message_layout}
@@ -54,7 +54,7 @@ clear_top n h p =
     let first = part_first p in
     rw first.byte (omega arith)
 
-module _ (limit : Limit) (name : List ℕ) (t : TMessageType) (seq : ℤ) (below : above (length name) limit ≡ false) (n : Name name) (g : SFits w32 seq)
+module _ (limit : Option ℕ) (name : List ℕ) (t : TMessageType) (seq : ℤ) (below : above (length name) limit ≡ false) (n : Name name) (g : SFits w32 seq)
     {s : List ℕ} {at e : ℕ} where
   strict_reads : (reader : Bool) → Part s at e (message_layout true name t (of_z w32 seq)) → Headed s name t seq (message_at reader limit s at) e
   strict_reads reader p =
@@ -92,7 +92,7 @@ module _ (limit : Limit) (name : List ℕ) (t : TMessageType) (seq : ℤ) (below
       }
 
 -- within the reader's limit
-module _ (limit : Limit) (name : List ℕ) (t : TMessageType) (seq : ℤ) (below : above (length name) limit ≡ false) (g : SFits w32 seq)
+module _ (limit : Option ℕ) (name : List ℕ) (t : TMessageType) (seq : ℤ) (below : above (length name) limit ≡ false) (g : SFits w32 seq)
     (out : List ℕ) (at : ℕ) {new : List ℕ} {next : ℕ} where
   pub strict_message_back : (reader : Bool) → gives new next ≡ message_write true name t seq out at
       → Finds (λ (p : Span). message p t seq) new name (message_at reader limit new at) next

@@ -1,38 +1,6 @@
 -- Assumes nothing.
-use native.Mathlib.Omega.{arith}
-use lib.ListN.{length-set}
-use lib.Seq.{sets-eq}
-use Rattle.number.specs.BigEndian.{bytes_of}
-use Rattle.put.proofs.Numbers.{no_room, in_front_lem}
+use Rattle.put.proofs.Numbers.{eight}
 use Rattle.put.proofs.put64.Goals as goal
 
-pub returns-then-out-lt8 : goal.returns-then-out-lt8
-returns-then-out-lt8 c = no_room _ _ _ (omega arith)
-
-pub bounds-out-1 : goal.bounds-out-1
-bounds-out-1 c = simp length-set (omega arith)
-
-pub bounds-out-2 : goal.bounds-out-2
-bounds-out-2 c = simp length-set (omega arith)
-
-pub bounds-out-3 : goal.bounds-out-3
-bounds-out-3 c = simp length-set (omega arith)
-
-pub bounds-out-4 : goal.bounds-out-4
-bounds-out-4 c = simp length-set (omega arith)
-
-pub bounds-out-5 : goal.bounds-out-5
-bounds-out-5 c = simp length-set (omega arith)
-
-pub bounds-out-6 : goal.bounds-out-6
-bounds-out-6 c = simp length-set (omega arith)
-
-pub bounds-out-7 : goal.bounds-out-7
-bounds-out-7 c = simp length-set (omega arith)
-
-pub shape_of-out : goal.shape_of-out
-shape_of-out c = simp length-set
-
 pub returns : goal.returns
-unfolding bytes_of
-returns c = let a = c.args in in_front_lem 8 a.v a.out.now c.if-out-lt8.false (sets-eq (bytes_of 8 a.v) a.out.now 0 c.if-out-lt8.false)
+returns c = eight _ _ c.put_bytes.ensures c.to_be_bytes.ensures

@@ -19,23 +19,19 @@ decreases-skip_struct l = l.depth + l.depth
 abbrev pub decreases-skip_value : goal.decreases-skip_value
 decreases-skip_value l = l.depth + l.depth + 1
 
-abbrev pub invariant-skip_list-loop-i : goal.invariant-skip_list-loop-i
-invariant-skip_list-loop-i l =
-    tree.ListLoop binary l.config l.bytes l.start l.depth l.struct_depth (record { element = l.element_type; size = l.len }) l.initial.at l.at l.count l.i
+abbrev pub invariant-skip_list-loop : goal.invariant-skip_list-loop
+invariant-skip_list-loop l =
+    tree.ListLoop binary l.config l.bytes l.fn.cursor.at l.depth l.struct_depth (record { element = l.element_type; size = l.end })
+    l.initial.so_far.next.at l.so_far.next.at l.so_far.count l.counter
 
-abbrev pub decreases-skip_list-loop-i : goal.decreases-skip_list-loop-i
-decreases-skip_list-loop-i l = l.len - l.i
-
-abbrev pub invariant-skip_map-loop-i : goal.invariant-skip_map-loop-i
-invariant-skip_map-loop-i l =
-    tree.MapLoop binary l.config l.bytes l.start l.depth l.struct_depth (record { key = l.key_type; value = l.value_type; size = l.len }) l.initial.at l.at l.count l.i
-
-abbrev pub decreases-skip_map-loop-i : goal.decreases-skip_map-loop-i
-decreases-skip_map-loop-i l = l.len - l.i
+abbrev pub invariant-skip_map-loop : goal.invariant-skip_map-loop
+invariant-skip_map-loop l =
+    tree.MapLoop binary l.config l.bytes l.fn.cursor.at l.depth l.struct_depth (record { key = l.map.key_type; value = l.map.value_type; size = l.end })
+    l.initial.so_far.next.at l.so_far.next.at l.so_far.count l.counter
 
 abbrev pub invariant-skip_struct-loop-field : goal.invariant-skip_struct-loop-field
 invariant-skip_struct-loop-field l =
-    tree.StructLoop binary l.config l.bytes l.start l.depth l.struct_depth tt l.at l.count × (l.inner ≡ l.struct_depth + 1)
+    tree.StructLoop binary l.config l.bytes l.fn.cursor.at l.depth l.struct_depth tt l.so_far.next.at l.so_far.count × (l.inner ≡ l.struct_depth + 1)
 
 abbrev pub decreases-skip_struct-loop-field : goal.decreases-skip_struct-loop-field
-decreases-skip_struct-loop-field l = length l.bytes - l.at
+decreases-skip_struct-loop-field l = length l.bytes - l.so_far.next.at
