@@ -61,10 +61,10 @@ abbrev pub unless_absent : {A : Type 0} → ℕ → A → Option A
 unless_absent absent v = cond (eqb (absent % 2) 1) None (Some v)
 
 abbrev pub field_id_of : ℕ → ℕ → Option ℤ
-field_id_of absent n = cond (eqb (absent % 2) 1) None (Some (low16 n))
+field_id_of absent n = unless_absent absent (low16 n)
 
 abbrev pub map_type_of : ℕ → TType → Option TType
-map_type_of absent t = cond (eqb (absent % 2) 1) None (Some t)
+map_type_of absent t = unless_absent absent t
 
 abbrev pub headed_write : Headed → TType → Writing → List ℕ → ℕ → Answer (List ℕ)
 headed_write H.Field t c out at = field_write t (field_id_of c.absent c.number) out at

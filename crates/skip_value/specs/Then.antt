@@ -1,4 +1,5 @@
--- One value after another: the count of what was passed so far comes on top, where the next is refused too.
+-- One value after another: the count of what was passed so far comes on top, where the next is refused too. Two inner
+-- functions promise these to the skip of a value; no public call's promise cites them: what they come to is the tree's.
 use Rattle.std.specs.Prelude.{ℕ, ◌+◌, ◌<◌, ◌^◌, Result, Ok, Err}
 use Rattle.wire.specs.declared.refusal.Refusal.{Refusal}
 use Rattle.leaf.specs.declared.Passed.{Passed}
