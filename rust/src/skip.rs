@@ -83,8 +83,8 @@ fn told([number, end, count]: [u64; 3]) -> Result<Skipped, Refusal> {
 ///
 /// Every call answers. It refuses 2, 20, then what the value's own bytes call for: 1, 5, 6, 7, 9, 10, 11, 12.
 ///
-/// It calls itself for each level, so a thread must have the stack for it: some 37,000 bytes for 127 levels,
-/// 288 a level. That is measured, not proved.
+/// It calls itself for each level, so a thread must have the stack for it: some 35,000 bytes for 127 levels,
+/// 272 a level. That is measured, not proved.
 ///
 /// ```
 /// use turmyshge::{skip, Kind, Skipped, TType};
