@@ -70,7 +70,7 @@ impl TryFrom<u8> for TMessageType {
 
     ghost try_from_gives = { λ b r. result_ok r ≡ message_of b };
 
-    #[tactic(auto, using(crate::proofs::Tables::missed))]
+    #[tactic(auto, using(crate::proofs::Tables::missed_none))]
     fn try_from(b: u8) -> Result<TMessageType, NoMessageType> {
         match b {
             0x01 => Ok(TMessageType::Call),
@@ -108,7 +108,7 @@ pub fn field_type_to_u8(field_type: TType) -> u8
 
 // The type that a byte stands for, or None, for which a read refuses 5. Refuses nothing.
 // 0C gives Struct and 0B String; 05 gives None.
-#[tactic(auto, using(crate::proofs::Tables::missed))]
+#[tactic(auto, using(crate::proofs::Tables::missed_none))]
 pub fn field_type_from_u8(b: u8) -> Option<TType>
     ensures { result ≡ type_of b }
 {

@@ -22,7 +22,7 @@ fn read_item<const W: usize>(bytes: &[u8], cursor: Cursor) -> Result<([u8; W], C
 
 // A byte at the cursor. Refuses 2, 1.
 // 07 at 0 gives 7 and ends at 1; no byte at 0 is refused: 1 at 0.
-#[tactic(auto, using(crate::proofs::Widths::no_number))]
+#[tactic(auto, using(crate::proofs::Widths::no_number, crate::proofs::Items::byte_read))]
 pub fn read_byte(bytes: &[u8], cursor: Cursor) -> Result<(u8, Cursor)>
     ensures { told result ≡ byte_at bytes.now cursor.at }
 {
@@ -42,7 +42,7 @@ pub fn read_bool(bytes: &[u8], cursor: Cursor) -> Result<(bool, Cursor)>
 
 // An 8-bit signed number at the cursor. Refuses 2, 1.
 // 07 at 0 gives 7 and ends at 1; no byte at 0 is refused: 1 at 0.
-#[tactic(auto, using(crate::proofs::Widths::no_number))]
+#[tactic(auto, using(crate::proofs::Widths::no_number, crate::proofs::Items::i8_read))]
 pub fn read_i8(bytes: &[u8], cursor: Cursor) -> Result<(i8, Cursor)>
     ensures { told result ≡ i8_at bytes.now cursor.at }
 {
@@ -52,7 +52,7 @@ pub fn read_i8(bytes: &[u8], cursor: Cursor) -> Result<(i8, Cursor)>
 
 // A 16-bit signed number at the cursor. Refuses 2, 1.
 // 00 07 at 0 gives 7 and ends at 2; 00 at 0 is refused: 1 at 0.
-#[tactic(auto, using(crate::proofs::Widths::no_number))]
+#[tactic(auto, using(crate::proofs::Widths::no_number, crate::proofs::Items::i16_read))]
 pub fn read_i16(bytes: &[u8], cursor: Cursor) -> Result<(i16, Cursor)>
     ensures { told result ≡ i16_at bytes.now cursor.at }
 {
@@ -62,7 +62,7 @@ pub fn read_i16(bytes: &[u8], cursor: Cursor) -> Result<(i16, Cursor)>
 
 // A 32-bit signed number at the cursor. Refuses 2, 1.
 // 00 00 00 07 at 0 gives 7 and ends at 4; 00 00 00 at 0 is refused: 1 at 0.
-#[tactic(auto, using(crate::proofs::Widths::no_number))]
+#[tactic(auto, using(crate::proofs::Widths::no_number, crate::proofs::Items::i32_read))]
 pub fn read_i32(bytes: &[u8], cursor: Cursor) -> Result<(i32, Cursor)>
     ensures { told result ≡ i32_at bytes.now cursor.at }
 {
@@ -72,7 +72,7 @@ pub fn read_i32(bytes: &[u8], cursor: Cursor) -> Result<(i32, Cursor)>
 
 // A 64-bit signed number at the cursor. Refuses 2, 1.
 // 00 00 00 00 00 00 00 07 at 0 gives 7 and ends at 8; 00 00 00 00 00 00 00 at 0 is refused: 1 at 0.
-#[tactic(auto, using(crate::proofs::Widths::no_number))]
+#[tactic(auto, using(crate::proofs::Widths::no_number, crate::proofs::Items::i64_read))]
 pub fn read_i64(bytes: &[u8], cursor: Cursor) -> Result<(i64, Cursor)>
     ensures { told result ≡ i64_at bytes.now cursor.at }
 {
@@ -82,7 +82,7 @@ pub fn read_i64(bytes: &[u8], cursor: Cursor) -> Result<(i64, Cursor)>
 
 // A double at the cursor, by its eight bytes. Refuses 2, 1. Any NaN comes as the one NaN: read_i64 keeps its payload.
 // 3F F0 00 00 00 00 00 00 at 0 gives 1 and ends at 8; 3F F0 00 00 00 00 00 at 0 is refused: 1 at 0.
-#[tactic(auto, using(crate::proofs::Widths::no_number))]
+#[tactic(auto, using(crate::proofs::Widths::no_number, crate::proofs::Items::double_read))]
 pub fn read_double(bytes: &[u8], cursor: Cursor) -> Result<(f64, Cursor)>
     ensures { told result ≡ double_at bytes.now cursor.at }
 {

@@ -134,7 +134,7 @@ pub fn read_step(b: u8) -> Option<ReadStep>
 }
 
 // The write that a number stands for, None from 24 on. Refuses nothing.
-#[tactic(auto, using(codes::proofs::Tables::missed))]
+#[tactic(auto, using(codes::proofs::Tables::missed_none))]
 pub fn write_step(b: u8) -> Option<WriteStep>
     ensures { result ≡ write_step_of b }
 {
@@ -168,7 +168,7 @@ pub fn write_step(b: u8) -> Option<WriteStep>
 }
 
 // The type that an index stands for, which is not its byte; None from 15 on. Refuses nothing.
-#[tactic(auto, using(codes::proofs::Tables::missed))]
+#[tactic(auto, using(codes::proofs::Tables::missed_none))]
 pub fn kind(b: u8) -> Option<TType>
     ensures { result ≡ kind_of b }
 {

@@ -17,6 +17,7 @@ pub fn put8(out: &mut [u8], v: u8)
 
 // A number of 32 bits in front, big-endian. Refuses nothing.
 // 7 into 5 bytes AA leaves 00 00 00 07 AA; into 3 bytes AA it writes nothing.
+#[tactic(auto, unfolding(number::specs::BigEndian::bytes_of))]
 pub fn put32(out: &mut [u8], v: u32)
     ensures { out.new ≡ in_front (bytes_of 4 v) out.old }
 {
@@ -25,6 +26,7 @@ pub fn put32(out: &mut [u8], v: u32)
 
 // A number of 64 bits in front, big-endian. Refuses nothing.
 // 7 into 9 bytes AA leaves 00 00 00 00 00 00 00 07 AA; into 7 bytes AA it writes nothing.
+#[tactic(auto, unfolding(number::specs::BigEndian::bytes_of))]
 pub fn put64(out: &mut [u8], v: u64)
     ensures { out.new ≡ in_front (bytes_of 8 v) out.old }
 {

@@ -1,4 +1,4 @@
--- The cases of a size and of a size with its bytes that are accepted, each from what leads to it. Assumes nothing.
+-- The cases of a size and of a size with its bytes, each from what leads to it, and that an accepted span lies inside. Assumes nothing.
 use Prim.Native.Nat.{ℕ, ◌-◌, ◌<◌, ◌≤◌}
 use native.Mathlib.Omega.{arith}
 use borrow.Author.Tests.{ltb-true, lt-ltb, le-ltb}
@@ -13,6 +13,7 @@ use lib.Signed.{lt_z, non_neg}
 use lib.ListN.{length, take, drop}
 use Rattle.wire.specs.Answer.{gives, refused, refuse_if, and_then, within, item_at}
 use Rattle.wire.proofs.Answers.{goes_on, passed, went}
+use Rattle.wire.proofs.Within.{inside}
 use Rattle.number.specs.BigEndian.{big}
 use Rattle.number.specs.Reads.{number_at, i32_at}
 use Rattle.config.specs.Limits.{above}
@@ -20,6 +21,7 @@ use Rattle.std.specs.Prelude.{Option}
 use Rattle.utf8.specs.UpTo.{up_to}
 use Rattle.text.specs.declared.Span.{Span}
 use Rattle.text.specs.declared.Body.{Body}
+use Rattle.text.specs.declared.Body.TheVariants as BodyOf
 use Rattle.text.specs.Texts.{span, size_at, over_number, limited_at, sized_at, part_marked, bytes_at, string_at, uuid_at}
 
 -- a 32-bit number that is not negative is below 2 to the 31st
@@ -39,6 +41,10 @@ not_negative n h = (go (to_z w32 n) h, record { fits = omega (arith, below n h) 
 
 module _ (s : List ℕ) (at : ℕ) where
   module _ {v : ℤ} {next : ℕ} (e : gives v next ≡ i32_at s at) where
+    pub negative : lt_z v (pos 0) ≡ true → refused 6 at ≡ size_at s at
+    unfolding size_at and_then refuse_if
+    negative h = rw (← e, h)
+
     pub size : lt_z v (pos 0) ≡ false → gives (nat_abs v) next ≡ size_at s at
     unfolding size_at and_then refuse_if
     size h = rw (← e, h)
@@ -81,6 +87,21 @@ module _ (body : Body) (limit : Option ℕ) (s : List ℕ) (at : ℕ) where
     unfolding sized_at and_then
     whole f = rw (← e, ← f)
 
+-- a span inside so many bytes
+pub record Lies (n : ℕ) (p : Span) : Type 0 where
+  pub ordered : p.start ≤ p.end
+  pub inside_them : p.end ≤ n
+
+-- the span that a read of sized bytes gives lies inside the bytes
+pub sized_lies : (body : Body) (limit : Option ℕ) (s : List ℕ) (at : ℕ) {p : Span} {q : ℕ} → gives p q ≡ sized_at body limit s at → Lies (length s) p
+unfolding sized_at
+sized_lies body limit s at {p} {q} e =
+    let a = went (limited_at body limit s at) _ e in
+    let c = went (within s a.place a.value) _ a.on in
+    let same : p ≡ span a.place c.place = cc c.on in
+    let i = inside s a.place a.value c.gave in
+    rw same (record { ordered = omega arith; inside_them = omega arith })
+
 -- the cases of a span
 module _ (s : List ℕ) (p : Span) where
   pub part_empty : p.end ≤ p.start → [] ≡ part_marked s p
@@ -101,6 +122,10 @@ module _ (s : List ℕ) (p : Span) where
 
 module _ (limit : Option ℕ) (s : List ℕ) (at : ℕ) where
   module _ {p : Span} {next : ℕ} (e : gives p next ≡ bytes_at limit s at) where
+    -- so it is handed out whole
+    pub text_taken : take (p.end - p.start) (drop p.start s) ≡ part_marked s p
+    text_taken = part_inside s p (sized_lies BodyOf.Text limit s at e).inside_them
+
     pub string : length (part_marked s p) ≤ up_to (part_marked s p) → gives p next ≡ string_at limit s at
     unfolding string_at and_then refuse_if
     string h = rw (← e, le-ltb _ _ h)

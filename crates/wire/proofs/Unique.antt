@@ -16,27 +16,34 @@ module _ {E T : Type 0} (told : E → T) (back : T → E) (same : (e : E) → ba
   pub settled : {a b : E} {m : T} → told a ≡ m → told b ≡ m → a ≡ b
   settled p q = unique (p ∙ sym q)
 
--- an answer, from what it tells: of a value with the moved cursor, and of the moved cursor alone
-unfoldable pub back : {A : Type 0} → Answer A → Result (A × Cursor) Refusal
-back (gives v p) = Ok (v, record { at = p })
-back (refused n p) = Err (refusal_of n p)
+-- an answer of a value with the moved cursor, or a refusal, from what it tells
+module _ {E A : Type 0} (value : A → Cursor → E) (turned : Refusal → E) where
+  unfoldable pub back_by : Answer A → E
+  back_by (gives v p) = value v (record { at = p })
+  back_by (refused n p) = turned (refusal_of n p)
 
-moved_back : Answer Unit → Result Cursor Refusal
-moved_back (gives u p) = Ok (record { at = p })
-moved_back (refused n p) = Err (refusal_of n p)
+  -- such an answer is settled by what it tells, if each of its values is one of the two
+  module _ (told : E → Answer A) (same : (e : E) → back_by (told e) ≡ e) where
+    pub cursor_settled : {a b : E} {m : Answer A} → told a ≡ m → told b ≡ m → a ≡ b
+    cursor_settled = settled told back_by same
+
+-- of a value with the moved cursor
+unfoldable pub back : {A : Type 0} → Answer A → Result (A × Cursor) Refusal
+back = back_by (λ v c. Ok (v, c)) Err
 
 pub told_settled : {A : Type 0} {a b : Result (A × Cursor) Refusal} {m : Answer A} → told a ≡ m → told b ≡ m → a ≡ b
-unfolding back
-told_settled {A} = settled told back same
+unfolding back_by
+told_settled {A} = cursor_settled (λ (v : A) c. Ok (v, c)) Err told same
   where
-    same : (r : Result (A × Cursor) Refusal) → back (told r) ≡ r
+    same : (r : Result (A × Cursor) Refusal) → back_by (λ (v : A) c. Ok (v, c)) Err (told r) ≡ r
     same (Ok r) = refl
     same (Err x) = ap Err (told_back x)
 
+-- of the moved cursor alone
 pub moved_settled : {a b : Result Cursor Refusal} {m : Answer Unit} → told_moved a ≡ m → told_moved b ≡ m → a ≡ b
-unfolding moved_back
-moved_settled = settled told_moved moved_back same
+unfolding back_by
+moved_settled = cursor_settled (λ (u : Unit) c. Ok c) Err told_moved same
   where
-    same : (r : Result Cursor Refusal) → moved_back (told_moved r) ≡ r
+    same : (r : Result Cursor Refusal) → back_by (λ (u : Unit) c. Ok c) Err (told_moved r) ≡ r
     same (Ok c) = refl
     same (Err x) = ap Err (told_back x)

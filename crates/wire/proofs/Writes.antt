@@ -10,9 +10,10 @@ use borrow.Rule.Slice.PartMut.{put_mid}
 use lib.Dec.{ltb}
 use lib.ListN.{length, take, drop, length-append, length-take, length-drop, drop_of_length-le, take-append-drop}
 use lib.Seq.{take_all, take_at, drop-drop, drop-append-add}
-use Rattle.std.specs.Prelude.{Result}
+use Rattle.std.specs.Prelude.{Result, Ok, Err}
 use Rattle.wire.specs.Answer.{Answer, gives, refused, refuse_if, and_then}
-use Rattle.wire.specs.Writes.{room_for, laid, Output, puts, fails, fail_if, unless_fails, write_at, Wrote, in_front}
+use Rattle.wire.specs.Refusals.{told_moved}
+use Rattle.wire.specs.Writes.{room_for, laid, Output, puts, fails, fail_if, unless_fails, write_at, left, Wrote, in_front}
 use Rattle.wire.specs.declared.cursor.Cursor.{Cursor}
 use Rattle.wire.specs.declared.refusal.Refusal.{Refusal}
 use Rattle.wire.proofs.Answers.{Passed, passed}
@@ -35,7 +36,7 @@ pub room_fits : (n at w : ℕ) {next : ℕ} → gives tt next ≡ room_for n at 
 room_fits n at w f = let i = has_room n at w f in omega (arith, ltb-false n at i.inside, ltb-false (n - at) w i.enough)
 
 -- no room is asked for past the end
-no_place : (n at w : ℕ) → n < at → refused 2 at ≡ room_for n at w
+pub no_place : (n at w : ℕ) → n < at → refused 2 at ≡ room_for n at w
 unfolding room_for refuse_if
 no_place n at w h = simp (lt-ltb _ _ h)
 
@@ -131,6 +132,15 @@ behind out hd bs p {d} e h f g =
 pub laid_none : (out : List ℕ) (at : ℕ) → laid [] out at ≡ out
 unfolding laid
 laid_none out at = simp (append-nil, add-zero) (take-append-drop at out)
+
+pub nothing_put : (output : Output) (out : List ℕ) (at : ℕ) {r : Result Cursor Refusal} → puts [] ≡ output → told_moved r ≡ room_for (length out) at 0
+    → Wrote r out out (write_at output out at)
+unfolding left
+nothing_put output out at {r} e t = go r t
+  where
+    go : (r : Result Cursor Refusal) → told_moved r ≡ room_for (length out) at 0 → Wrote r out out (write_at output out at)
+    go (Ok c) t = let w = writes output out at 0 e refl t (sym (laid_none out at)) in record { answer = rw (← w); buffer = rw (← w) }
+    go (Err x) t = let w = write_no_room output out at 0 e refl t in record { answer = rw (← w); buffer = rw (← w) }
 
 -- a writer's promise settles its answer and the buffer
 pub wrote_settled : {r r' : Result Cursor Refusal} {new new' old : List ℕ} {write : Answer (List ℕ)} → Wrote r new old write → Wrote r' new' old write → (r ≡ r') × (new ≡ new')
