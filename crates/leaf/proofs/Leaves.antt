@@ -1,6 +1,6 @@
 -- What passing a text comes to after its size, and why no two answers meet a promise. Assumes nothing.
 use Prim.Native.Nat.{ℕ}
-use mathlib.Core.Path.{◌≡◌, refl, sym, ap}
+use mathlib.Core.Path.{◌≡◌, refl, ap}
 use mathlib.Core.List.{List}
 use Rattle.std.specs.Prelude.{Option, Result, Ok, Err}
 use Rattle.wire.specs.Answer.{Answer, gives, refused, and_then, judged, within}

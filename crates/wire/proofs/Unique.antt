@@ -32,10 +32,10 @@ unfoldable pub back : {A : Type 0} → Answer A → Result (A × Cursor) Refusal
 back = back_by (λ v c. Ok (v, c)) Err
 
 pub told_settled : {A : Type 0} {a b : Result (A × Cursor) Refusal} {m : Answer A} → told a ≡ m → told b ≡ m → a ≡ b
-unfolding back_by
+unfolding back back_by
 told_settled {A} = cursor_settled (λ (v : A) c. Ok (v, c)) Err told same
   where
-    same : (r : Result (A × Cursor) Refusal) → back_by (λ (v : A) c. Ok (v, c)) Err (told r) ≡ r
+    same : (r : Result (A × Cursor) Refusal) → back (told r) ≡ r
     same (Ok r) = refl
     same (Err x) = ap Err (told_back x)
 
